@@ -1,0 +1,13 @@
+pub mod Blocks
+pub mod Decodes
+pub mod Finishes
+pub mod Heaviest
+pub mod Outcomes
+pub mod Parses
+pub mod Places
+pub mod Rows
+pub mod Scans
+pub mod Shapes
+pub mod Sounds
+pub mod Steps
+pub mod Weights

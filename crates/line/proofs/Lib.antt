@@ -1,0 +1,3 @@
+pub mod Figures
+pub mod ReadBack
+pub mod Texts

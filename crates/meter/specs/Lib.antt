@@ -1,0 +1,4 @@
+pub mod Meters
+pub mod Cards
+pub mod Digits
+pub mod MadeCards

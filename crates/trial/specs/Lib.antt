@@ -1,0 +1,2 @@
+pub mod Diamonds
+pub mod Unevens
