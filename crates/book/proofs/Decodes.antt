@@ -1,17 +1,16 @@
 -- Decoding and encoding one instruction undo each other.
 use lib.Dec.{eqb, ltb}
 use lib.IntN.{ℤ, pos, negsuc}
-use mathlib.Core.Bool.{Bool, true, false, cond}
+use mathlib.Core.Bool.{Bool, true, cond}
 use mathlib.Core.Path.{_≡_, refl, sym, ap, subst, _∙_}
 use native.Mathlib.Omega.{arith}
 use Prim.Native.Nat.{ℕ, _≤_, _<_}
 use Rattle.book.proofs.Outcomes.{some-same, none-some, by-test}
-use Rattle.book.specs.Codes.{codeOf, argumentOf, operationCode, bounded, alone, decoded}
+use Rattle.book.specs.Codes.{codeOf, argumentOf, bounded, alone, decoded}
 use Rattle.book.specs.declared.instruction.Instruction.{Instruction}
 use Rattle.book.specs.declared.instruction.Instruction.the-variants.{Stop, Number, Figure, Clock, Operate, Store, If, Repeat, Wait, Else, End}
 use Rattle.book.specs.declared.instruction.Operation.the-variants.{Add, Subtract, Multiply, Divide, Less, Equal}
 use Rattle.std.proofs.shelf.Tests.{cond-true, eqb-true, ltb-true, lt-ltb}
-use Rattle.std.specs.declared.option.Option.{Option}
 use Rattle.std.specs.declared.option.Option.the-variants.{Some, None}
 
 -- the argument of an instruction is in its range, in a book of nv figures
@@ -38,11 +37,11 @@ pub record Decoded (nv c : ℕ) (z : ℤ) (i : Instruction) : Type 0 where
 bounded-is : (nv c k limit : ℕ) (make : ℕ → Instruction) (z : ℤ) (i : Instruction) → ((n : ℕ) → codeOf (make n) ≡ k) → ((n : ℕ) → n < limit → (argumentOf (make n) ≡ pos n) × Valid nv (make n)) → eqb c k ≡ true → bounded limit make z ≡ Some i → Decoded nv c z i
 bounded-is nv c k limit make (pos n) i codes rest b e =
     by-test (ltb n limit) (Some (make n)) None (Some i)
-      (λ t s.
-        let fits = rest n (ltb-true n limit t) in
-        subst (Decoded nv c (pos n)) (some-same (make n) i s) (record { code-is = codes n ∙ sym (eqb-true c k b); argument-is = fits .0; valid = fits .1 }))
-      (λ t s. absurd (none-some i s))
-      e
+    (λ t s.
+    let fits = rest n (ltb-true n limit t) in
+    subst (Decoded nv c (pos n)) (some-same (make n) i s) (record { code-is = codes n ∙ sym (eqb-true c k b); argument-is = fits .0; valid = fits .1 }))
+    (λ t s. absurd (none-some i s))
+    e
 bounded-is nv c k limit make (negsuc n) i codes rest b e = absurd (none-some i e)
 
 -- an instruction without an argument, whose code is k

@@ -1,10 +1,15 @@
+pub mod Accepts
 pub mod Blocks
+pub mod Bytes
 pub mod Decodes
+pub mod FieldLaws
 pub mod Finishes
 pub mod Heaviest
 pub mod Outcomes
 pub mod Parses
 pub mod Places
+pub mod ReaderLaw
+pub mod ReadsBack
 pub mod Rows
 pub mod Scans
 pub mod Shapes

@@ -12,6 +12,7 @@ module _ {A : Type 0} where
   held-or d None = d
   held-or d (Some x) = x
 
+  -- an option holds something
   abbrev Holds : Option A → Type 0
   Holds None = ⊥
   Holds (Some x) = Unit {0}
@@ -31,6 +32,7 @@ module _ {A E : Type 0} where
   ok-or d (Ok x) = x
   ok-or d (Err e) = d
 
+  -- a result is no fault
   abbrev Accepts : Result A E → Type 0
   Accepts (Ok x) = Unit {0}
   Accepts (Err e) = ⊥

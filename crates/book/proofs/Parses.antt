@@ -1,11 +1,10 @@
 -- Parsing undoes flattening: the instructions of a formed stretch, with what closes it behind them, parse to that stretch.
-use lib.ListN.{length}
 use mathlib.Core.Bool.{true, false}
 use mathlib.Core.List.{List, [], _∷_, _++_}
 use mathlib.Core.Path.{_≡_, refl, ap, _∙_}
 use Prim.Native.Nat.{ℕ}
 use Rattle.book.specs.declared.instruction.Instruction.{Instruction}
-use Rattle.book.specs.declared.instruction.Instruction.the-variants.{Stop, Number, Figure, Clock, Operate, Store, If, Repeat, Wait, Else, End}
+use Rattle.book.specs.declared.instruction.Instruction.the-variants.{Stop, Number, Figure, Clock, Operate, Store, Wait, Else, End}
 use Rattle.book.specs.Encodings.{EventFormed}
 use Rattle.book.specs.Forms.{Formed, ends, number, figure, clock, operate, store, wait, one-part, two-parts, turns}
 use Rattle.book.specs.Trees.{Code, done, plain, branch, loop, flat, whole, Closer, ending, elsing, stopping, Ahead, last, closed, grow, forked, branched, looped, before, parse, eventsAhead, events}
@@ -60,10 +59,12 @@ pub parse-whole : (nv : ℕ) (es : List Code) → All (λ e. Formed nv 8 0 e) es
 parse-whole nv [] a = refl
 parse-whole nv (e ∷ es) a = parse-flat (a .0) stopping (whole es) ∙ ap (closed stopping e) (parse-whole nv es (a .1))
 
+-- the events ahead of events
 pub events-ahead : (es : List Code) → eventsAhead (ahead es) ≡ es
 events-ahead [] = refl
 events-ahead (e ∷ es) = ap (λ l. e ∷ l) (events-ahead es)
 
+-- and so the events of their instructions are the events
 pub events-whole : (nv : ℕ) (es : List Code) → All (λ e. Formed nv 8 0 e) es → events (whole es) ≡ es
 events-whole nv es a = ap eventsAhead (parse-whole nv es a) ∙ events-ahead es
 

@@ -1,11 +1,11 @@
 -- From a scan to trees: instructions that fit, with a stop last, are the instructions of formed events.
 use lib.ListN.{length}
-use mathlib.Core.Bool.{true, false, true≢false, false≢true}
+use mathlib.Core.Bool.{true, false, false≢true}
 use mathlib.Core.List.{List, [], _∷_, _++_}
 use mathlib.Core.Path.{_≡_, refl, sym, ap, subst, subst₂, _∙_}
 use native.Mathlib.Numerals.{add-one}
 use native.Mathlib.Omega.{arith}
-use Prim.Native.Nat.{ℕ, zero, suc, _+_, _-_, _≤_, _<_}
+use Prim.Native.Nat.{ℕ, suc, _+_, _-_, _≤_, _<_}
 use Rattle.book.proofs.Decodes.{Valid}
 use Rattle.book.proofs.Parses.{instr, ahead}
 use Rattle.book.proofs.Steps.{Fitting, scan-back}
@@ -16,7 +16,7 @@ use Rattle.book.specs.declared.scan.Block.{Block}
 use Rattle.book.specs.declared.scan.Block.the-variants.{FirstPart, SecondPart, Turns}
 use Rattle.book.specs.Forms.{Formed, ends, number, figure, clock, operate, store, wait, one-part, two-parts, turns}
 use Rattle.book.specs.Reads.{fitsHeight, heightAfter, inFirst, fitsNesting, outer, blocksAfter, isStop, stopsLast, Raw, scan}
-use Rattle.book.specs.Trees.{Code, done, plain, branch, loop, flat, whole, Closer, ending, elsing, stopping, Ahead, last, closed, grow, forked, branched, looped, before, parse, eventsAhead, events}
+use Rattle.book.specs.Trees.{Code, done, plain, branch, loop, flat, whole, ending, elsing, stopping, Ahead, last, closed, grow, forked, before, parse, eventsAhead, events}
 use Rattle.std.proofs.shelf.Lists.{append-assoc, nil-from-length}
 use Rattle.std.proofs.shelf.Tests.{eqb-true, ltb-true}
 use Rattle.std.specs.declared.result.Result.the-variants.{Ok}
@@ -35,18 +35,19 @@ abbrev pub text : Ahead → List Instruction
 text (last c) = flat c
 text (closed k c a) = flat c ++ (instr k ∷ text a)
 
--- something in front of the stretch ahead, which forms it wherever as many blocks may still be open
+-- something in front of the stretch ahead keeps the shape, if it forms every stretch for which as many blocks may be open
 grow-shape : (nv h h′ : ℕ) (bs : List Block) (a : Ahead) (g : Code → Code) → ((d : ℕ) (c : Code) → length bs + d ≡ 8 → Formed nv d h′ c → Formed nv d h (g c)) → Shape nv h′ bs a → Shape nv h bs (grow g a)
 grow-shape nv h h′ bs a g forms (stop-last f) = stop-last (forms 8 _ refl f)
 grow-shape nv h h′ bs a g forms (stop-more f s) = stop-more (forms 8 _ refl f) s
 grow-shape nv h h′ bs a g forms (ended {d} {c} r f s) = ended r (forms d c r f) s
 grow-shape nv h h′ bs a g forms (elsed {d} {c} r f s) = elsed r (forms d c r f) s
 
+-- and puts the same instructions in front of all that is ahead
 grow-text : (front : List Instruction) (a : Ahead) (g : Code → Code) → ((c : Code) → flat (g c) ≡ front ++ flat c) → text (grow g a) ≡ front ++ text a
 grow-text front (last c) g puts = puts c
 grow-text front (closed k c a) g puts = ap (λ l. l ++ (instr k ∷ text a)) (puts c) ∙ append-assoc front (flat c) (instr k ∷ text a)
 
--- what stands in front of something, of one more block and of what follows it
+-- a block up to its end, apart from what follows: with one part, and with two
 around : (xs : List Instruction) (l : List Instruction) → xs ++ (End ∷ l) ≡ (xs ++ (End ∷ [])) ++ l
 around xs l = sym (append-assoc xs (End ∷ []) l)
 
@@ -58,26 +59,28 @@ pub record Grown (nv h : ℕ) (bs : List Block) (i : Instruction) (a : Ahead) : 
   pub shape : Shape nv h bs (before i a)
   pub says : text (before i a) ≡ i ∷ text a
 
--- an if whose first part is closed by an else
+-- An if whose first part is closed by an else: its second part can only be closed by an end, and both parts may hold one
+-- block less than what follows the if.
 fork-grown : (nv d : ℕ) (bs : List Block) (f : Code) (a : Ahead) → length (FirstPart ∷ bs) + d ≡ 8 → Formed nv d 0 f → Shape nv 0 (SecondPart ∷ bs) a → Shape nv 1 bs (forked f a) × (text (forked f a) ≡ If ∷ (flat f ++ (Else ∷ text a)))
 fork-grown nv d bs f a r p (ended {d = e} {c = s} {a = b} t q u) =
-    let same : e ≡ d = omega arith in
-    (grow-shape nv 1 0 bs b (branch true f s) (λ k c l w.
-       let more : k ≡ suc d = omega arith in
-       subst (λ x. Formed nv x 1 (branch true f s c)) (sym more) (two-parts p (subst (λ x. Formed nv x 0 s) same q) (subst (λ x. Formed nv x 0 c) more w))) u,
-     grow-text (If ∷ (flat f ++ (Else ∷ (flat s ++ (End ∷ []))))) b (branch true f s) (λ c. ap (λ l. If ∷ l) (around-two (flat f) (flat s) (flat c)))
-     ∙ ap (λ l. If ∷ l) (sym (around-two (flat f) (flat s) (text b))))
+    let same : e ≡ d = omega arith in (
+      grow-shape nv 1 0 bs b (branch true f s) (λ k c l w.
+          let more : k ≡ suc d = omega arith in
+          subst (λ x. Formed nv x 1 (branch true f s c)) (sym more) (two-parts p (subst (λ x. Formed nv x 0 s) same q) (subst (λ x. Formed nv x 0 c) more w))) u,
+      grow-text (If ∷ (flat f ++ (Else ∷ (flat s ++ (End ∷ []))))) b (branch true f s) (λ c. ap (λ l. If ∷ l) (around-two (flat f) (flat s) (flat c)))
+          ∙ ap (λ l. If ∷ l) (sym (around-two (flat f) (flat s) (text b))),
+    )
 
--- an if in front of its first part
+-- An if in front of its first part, by what closes that part.
 if-grown : (nv : ℕ) (bs : List Block) (a : Ahead) → Shape nv 0 (FirstPart ∷ bs) a → Grown nv 1 bs If a
 if-grown nv bs a (ended {d} {c = f} {a = b} r p u) = record {
-    shape = grow-shape nv 1 0 bs b (branch false f done) (λ k c l w.
+  shape = grow-shape nv 1 0 bs b (branch false f done) (λ k c l w.
       let more : k ≡ suc d = omega arith in
       subst (λ x. Formed nv x 1 (branch false f done c)) (sym more) (one-part p (subst (λ x. Formed nv x 0 c) more w))) u;
-    says =
+  says =
       grow-text (If ∷ (flat f ++ (End ∷ []))) b (branch false f done) (λ c. ap (λ l. If ∷ l) (around (flat f) (flat c)))
       ∙ ap (λ l. If ∷ l) (sym (around (flat f) (text b)));
-    }
+}
 if-grown nv bs a (elsed {d} {c = f} {a = b} r p u) =
     let w = fork-grown nv d bs f b r p u in
     record { shape = w .0; says = w .1 }
@@ -85,13 +88,13 @@ if-grown nv bs a (elsed {d} {c = f} {a = b} r p u) =
 -- a repeat in front of its inside
 repeat-grown : (nv n : ℕ) (bs : List Block) (a : Ahead) → n ≤ 1000 → Shape nv 0 (Turns ∷ bs) a → Grown nv 0 bs (Repeat n) a
 repeat-grown nv n bs a m (ended {d} {c = f} {a = b} r p u) = record {
-    shape = grow-shape nv 0 0 bs b (loop n f) (λ k c l w.
+  shape = grow-shape nv 0 0 bs b (loop n f) (λ k c l w.
       let more : k ≡ suc d = omega arith in
       subst (λ x. Formed nv x 0 (loop n f c)) (sym more) (turns m p (subst (λ x. Formed nv x 0 c) more w))) u;
-    says =
+  says =
       grow-text (Repeat n ∷ (flat f ++ (End ∷ []))) b (loop n f) (λ c. ap (λ l. Repeat n ∷ l) (around (flat f) (flat c)))
       ∙ ap (λ l. Repeat n ∷ l) (sym (around (flat f) (text b)));
-    }
+}
 
 -- a plain instruction in front of a stretch
 plain-grown : (nv h h′ : ℕ) (bs : List Block) (i : Instruction) (a : Ahead) → ((d : ℕ) (c : Code) → Formed nv d h′ c → Formed nv d h (plain i c)) → Shape nv h′ bs a → Shape nv h bs (grow (plain i) a) × (text (grow (plain i) a) ≡ i ∷ text a)
@@ -105,7 +108,7 @@ operate-forms nv h d o c l f =
     let one-more : h - 1 ≡ suc k = omega arith in
     subst (λ x. Formed nv d x (plain (Operate o) c)) two-more (operate (subst (λ x. Formed nv d x c) one-more f))
 
--- a closer in front starts an empty stretch
+-- an end closes a block that is open, an else a first part; each stands behind an empty stretch
 end-grown : (nv : ℕ) (bs : List Block) (a : Ahead) → length bs ≤ 8 → fitsNesting End bs ≡ true → Shape nv 0 (outer bs) a → Grown nv 0 bs End a
 end-grown nv [] a r u s = absurd (false≢true u)
 end-grown nv (b ∷ bs) a r u s = record { shape = ended {d = 8 - suc (length bs)} (omega arith) ends s; says = refl }
@@ -120,10 +123,11 @@ else-grown nv (Turns ∷ bs) a r u s = absurd (false≢true u)
 nothing-open : (bs : List Block) → fitsNesting Stop bs ≡ true → [] ≡ bs
 nothing-open bs u = sym (nil-from-length bs (eqb-true (length bs) 0 u))
 
+-- a stop ends an event
 stop-grown : (nv : ℕ) (a : Ahead) → Shape nv 0 [] a → Grown nv 0 [] Stop a
 stop-grown nv a s = record { shape = stop-more ends s; says = refl }
 
--- One more instruction in front, by cases on it.
+-- One more instruction in front, by cases on it: what it asks of the height and the blocks is what its rule asks.
 grown : (nv h : ℕ) (bs : List Block) (i : Instruction) (a : Ahead) → length bs ≤ 8 → Valid nv i → fitsHeight i h ≡ true → fitsNesting i bs ≡ true → Shape nv (heightAfter i h) (blocksAfter i bs) a → Grown nv h bs i a
 grown nv h bs (Number z) a r v t u s =
     let w = plain-grown nv h (h + 1) bs (Number z) a (λ d c f. number (ltb-true h 8 t) (subst (λ x. Formed nv d x c) (add-one h) f)) s in
@@ -211,6 +215,7 @@ shape-events nv a (stop-more {c} {a = b} f s) =
     let w = shape-events nv b s in
     (ap (λ l. flat c ++ (Stop ∷ l)) (w .0), (f, w .1), ap (closed stopping c) (w .2))
 
+-- instructions that fit, with a stop last, are events
 pub fitting-events : (nv : ℕ) (is : List Instruction) → Fitting nv 0 [] is → stopsLast is ≡ true → Programmed nv is
 fitting-events nv [] f s = record { code-is = refl; formed = tt; parsed = refl }
 fitting-events nv (i ∷ is) f s =

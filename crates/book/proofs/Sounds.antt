@@ -1,14 +1,15 @@
 -- Code that passes all that the reader asks is the code of formed, light events; and code that the reader gives passes again.
 use lib.Dec.{ltb}
 use lib.ListN.{length}
-use mathlib.Core.Bool.{true, false, cond, false≢true}
+use mathlib.Core.Bool.{true, false≢true}
 use mathlib.Core.List.{List, [], _∷_, map}
 use mathlib.Core.Path.{_≡_, refl, sym, ap, subst, _∙_}
 use Prim.Native.Nat.{ℕ, _+_, _≤_}
 use Rattle.book.proofs.Decodes.{decoded-same}
 use Rattle.book.proofs.Outcomes.{some-none, ok-same, err-ok, by-test}
-use Rattle.book.proofs.Parses.{ahead}
-use Rattle.book.proofs.Shapes.{Programmed, scanned-events}
+use Rattle.book.proofs.Parses.{ahead, events-whole}
+use Rattle.book.proofs.Scans.{scan-whole, whole-stops}
+use Rattle.book.proofs.Shapes.{scanned-events}
 use Rattle.book.proofs.Steps.{scan-again, placed-ok}
 use Rattle.book.specs.Codes.{codeOf, argumentOf, decoded}
 use Rattle.book.specs.declared.fault.ReaderFault.{ReaderFault}
@@ -26,15 +27,16 @@ use Rattle.std.specs.declared.result.Result.the-variants.{Ok, Err}
 use Rattle.std.specs.Results.{isOk}
 use Rattle.std.specs.shelf.Lists.{All}
 
--- no event is heavy
+-- where no event is heavy each is light
 pub heavy-none : (p : ℕ) (es : List Code) → heavy p es ≡ None → All (λ e. eventWeight e ≤ 100000) es
 heavy-none p [] e = tt
 heavy-none p (c ∷ cs) e =
     by-test (ltb 100000 (eventWeight c)) (Some p) (heavy (p + (length (flat c) + 1)) cs) None
-      (λ b s. absurd (some-none p s))
-      (λ b s. (ltb-false 100000 (eventWeight c) b, heavy-none (p + (length (flat c) + 1)) cs s))
-      e
+    (λ b s. absurd (some-none p s))
+    (λ b s. (ltb-false 100000 (eventWeight c) b, heavy-none (p + (length (flat c) + 1)) cs s))
+    e
 
+-- and the other way round
 pub heavy-light : (p : ℕ) (es : List Code) → All (λ e. eventWeight e ≤ 100000) es → heavy p es ≡ None
 heavy-light p [] a = refl
 heavy-light p (c ∷ cs) a =
@@ -47,26 +49,30 @@ pub record Finished (r : Result (List Instruction) ReaderFault) (is : List Instr
   pub stops : stopsLast is ≡ true
   pub none-heavy : heavy 0 (events is) ≡ None
 
+-- an answer where no event was heavy
 light-ok : (o : Option ℕ) (is js : List Instruction) → light o is ≡ Ok js → (o ≡ None) × (is ≡ js)
 light-ok None is js e = (refl, ok-same is js e)
 light-ok (Some p) is js e = absurd (err-ok (Weight p) js e)
 
+-- By the two tests, each of which would have answered a fault.
 pub finished-ok : (r : Result (List Instruction) ReaderFault) (is : List Instruction) → finished r ≡ Ok is → Finished r is
 finished-ok (Ok js) is e =
     by-test (stopsLast js) (light (heavy 0 (events js)) js) (Err (Nesting (length js))) (Ok is)
-      (λ b s.
-        let w = light-ok (heavy 0 (events js)) js is s in
-        subst (Finished (Ok js)) (w .1) (record { scanned = refl; stops = b; none-heavy = w .0 }))
-      (λ b s. absurd (err-ok (Nesting (length js)) is s))
-      e
+    (λ b s.
+    let w = light-ok (heavy 0 (events js)) js is s in
+    subst (Finished (Ok js)) (w .1) (record { scanned = refl; stops = b; none-heavy = w .0 }))
+    (λ b s. absurd (err-ok (Nesting (length js)) is s))
+    e
 finished-ok (Err f) is e = absurd (err-ok f is e)
 
+-- code that a stop ends and none of whose events is heavy is let pass
 pub finished-passes : (is : List Instruction) → stopsLast is ≡ true → heavy 0 (events is) ≡ None → finished (Ok is) ≡ Ok is
 finished-passes is s h =
     cond-true (stopsLast is) (light (heavy 0 (events is)) is) (Err (Nesting (length is))) s
     ∙ ap (λ o. light o is) h
 
--- a scan of instructions as bytes answers those instructions or a fault
+-- A scan of instructions as bytes answers those instructions or a fault: by induction, since a code and an argument that
+-- came from an instruction stand for no other.
 pub scan-same : (nv p h : ℕ) (bs : List Block) (is js : List Instruction) → scan nv p h bs (map raw is) ≡ Ok js → is ≡ js
 scan-same nv p h bs [] js e = ok-same [] js e
 scan-same nv p h bs (i ∷ is) js e =
@@ -108,3 +114,9 @@ pub finished-sound : (nv : ℕ) (rs : List Raw) (is : List Instruction) → fini
 finished-sound nv rs is e =
     let f = finished-ok (scan nv 0 0 [] rs) is e in
     ap (λ r. isOk (finished r)) (scan-again nv 0 0 [] rs is (f .scanned)) ∙ ap isOk (finished-passes is (f .stops) (f .none-heavy))
+
+-- formed and light events pass all that the reader asks, and are given as they are
+pub whole-passes : (nv : ℕ) (es : List Code) → All (λ e. Formed nv 8 0 e) es → All (λ e. eventWeight e ≤ 100000) es → finished (scan nv 0 0 [] (map raw (whole es))) ≡ Ok (whole es)
+whole-passes nv es f l =
+    ap finished (scan-whole nv 0 es f)
+    ∙ finished-passes (whole es) (whole-stops es) (ap (heavy 0) (events-whole nv es f) ∙ heavy-light 0 es l)

@@ -1,10 +1,9 @@
 -- A scan succeeds exactly if each instruction fits where it stands, and then answers the instructions that it was given.
-use lib.IntN.{ℤ}
-use mathlib.Core.Bool.{Bool, true, false, cond}
+use mathlib.Core.Bool.{true, cond}
 use mathlib.Core.List.{List, [], _∷_, map}
-use mathlib.Core.Path.{_≡_, refl, sym, ap, ap₂, subst, _∙_}
+use mathlib.Core.Path.{_≡_, refl, ap, ap₂, subst, _∙_}
 use Prim.Native.Nat.{ℕ, _+_}
-use Rattle.book.proofs.Decodes.{Valid, Decoded, decoded-is, decoded-valid}
+use Rattle.book.proofs.Decodes.{Valid, decoded-is, decoded-valid}
 use Rattle.book.proofs.Outcomes.{ok-same, err-ok, by-test}
 use Rattle.book.specs.Codes.{codeOf, argumentOf, decoded}
 use Rattle.book.specs.declared.fault.ReaderFault.{ReaderFault}
@@ -24,7 +23,7 @@ Fitting nv h bs [] = Unit {0}
 Fitting nv h bs (i ∷ is) = Valid nv i × (fitsHeight i h ≡ true) × (fitsNesting i bs ≡ true) × Fitting nv (heightAfter i h) (blocksAfter i bs) is
 
 -- what a step that succeeds has met: the instruction, that it fits, and what the rest answers
-pub record Placed (h : ℕ) (bs : List Block) (o : Option Instruction) (next : Instruction → Result (List Instruction) ReaderFault) (is : List Instruction) : Type 0 where
+pub record Taken (h : ℕ) (bs : List Block) (o : Option Instruction) (next : Instruction → Result (List Instruction) ReaderFault) (is : List Instruction) : Type 0 where
   pub first : Instruction
   pub rest : List Instruction
   pub decodes : o ≡ Some first
@@ -33,21 +32,23 @@ pub record Placed (h : ℕ) (bs : List Block) (o : Option Instruction) (next : I
   pub goes-on : next first ≡ Ok rest
   pub splits : first ∷ rest ≡ is
 
+-- what a scan of the rest answered, if one instruction in front of it is an answer
 onto-ok : (i : Instruction) (r : Result (List Instruction) ReaderFault) (is : List Instruction) → onto i r ≡ Ok is → (js : List Instruction) × (r ≡ Ok js) × (i ∷ js ≡ is)
 onto-ok i (Ok js) is e = (js, refl, ok-same (i ∷ js) is e)
 onto-ok i (Err f) is e = absurd (err-ok f is e)
 
-pub placed-ok : (p h : ℕ) (bs : List Block) (o : Option Instruction) (next : Instruction → Result (List Instruction) ReaderFault) (is : List Instruction) → placed p h bs o next ≡ Ok is → Placed h bs o next is
+-- By the tests of a step, each of which would have answered a fault.
+pub placed-ok : (p h : ℕ) (bs : List Block) (o : Option Instruction) (next : Instruction → Result (List Instruction) ReaderFault) (is : List Instruction) → placed p h bs o next ≡ Ok is → Taken h bs o next is
 placed-ok p h bs None next is e = absurd (err-ok (Argument p) is e)
 placed-ok p h bs (Some i) next is e =
     by-test (fitsHeight i h) (cond (fitsNesting i bs) (onto i (next i)) (Err (Nesting p))) (Err (Height p)) (Ok is)
-      (λ t. by-test (fitsNesting i bs) (onto i (next i)) (Err (Nesting p)) (Ok is)
-        (λ u s.
-          let r = onto-ok i (next i) is s in
-          record { first = i; rest = r .0; decodes = refl; height = t; nesting = u; goes-on = r .1; splits = r .2 })
-        (λ u s. absurd (err-ok (Nesting p) is s)))
-      (λ t s. absurd (err-ok (Height p) is s))
-      e
+    (λ t. by-test (fitsNesting i bs) (onto i (next i)) (Err (Nesting p)) (Ok is)
+    (λ u s.
+    let r = onto-ok i (next i) is s in
+    record { first = i; rest = r .0; decodes = refl; height = t; nesting = u; goes-on = r .1; splits = r .2 })
+    (λ u s. absurd (err-ok (Nesting p) is s)))
+    (λ t s. absurd (err-ok (Height p) is s))
+    e
 
 -- By induction on what is scanned, each step taken apart by `placed-ok`.
 pub scan-back : (nv p h : ℕ) (bs : List Block) (rs : List Raw) (is : List Instruction) → scan nv p h bs rs ≡ Ok is → (map raw is ≡ rs) × Fitting nv h bs is
@@ -69,6 +70,7 @@ placed-fits p h bs o i next e t u =
     ∙ cond-true (fitsHeight i h) (cond (fitsNesting i bs) (onto i (next i)) (Err (Nesting p))) (Err (Height p)) t
     ∙ cond-true (fitsNesting i bs) (onto i (next i)) (Err (Nesting p)) u
 
+-- instructions that fit, as bytes, are scanned to themselves
 pub scan-fits : (nv p h : ℕ) (bs : List Block) (is : List Instruction) → Fitting nv h bs is → scan nv p h bs (map raw is) ≡ Ok is
 scan-fits nv p h bs [] f = refl
 scan-fits nv p h bs (i ∷ is) f =
