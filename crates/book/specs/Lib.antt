@@ -5,4 +5,5 @@ pub mod Forms
 pub mod Reads
 pub mod Books
 pub mod Encodings
+pub mod Looks
 pub mod Weighs
