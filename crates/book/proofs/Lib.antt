@@ -3,8 +3,10 @@ pub mod Blocks
 pub mod Bytes
 pub mod Decodes
 pub mod FieldLaws
+pub mod Events
 pub mod Finishes
 pub mod Heaviest
+pub mod Looking
 pub mod Outcomes
 pub mod Parses
 pub mod Places

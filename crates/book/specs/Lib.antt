@@ -5,5 +5,7 @@ pub mod Forms
 pub mod Reads
 pub mod Books
 pub mod Encodings
+pub mod Counts
 pub mod Looks
+pub mod Sights
 pub mod Weighs

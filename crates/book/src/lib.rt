@@ -1,6 +1,7 @@
 // Rule books: their instructions, and the reader that turns bytes into a book or refuses them.
 // It knows nothing of what a level or a charge means.
 pub mod book;
+pub mod cursor;
 mod decode;
 pub mod fault;
 mod fields;

@@ -1,10 +1,36 @@
 // What a book says, part by part.
 ghost use Rattle.book.specs.Books.{said};
+ghost use Prim.Native.Nat.{_≤_};
+ghost use Rattle.book.specs.Counts.{stops};
+ghost use Rattle.book.specs.Trees.{events as eventsOf};
+ghost use lib.ListN.{length};
 ghost use mathlib.Core.Path.{_≡_};
 use crate::book::Book;
 use crate::instruction::Instruction;
+use crate::weigh::is_stop;
+
+// How many of the instructions are stops.
+fn count_stops(code: &[Instruction]) -> u32
+    requires { ⌜ length (now code) ≤ 256 ⌝ }
+    ensures { λ r. ⌜ r ≡ stops (now (code .entry)) ⌝ }
+{
+    let mut count = 0;
+    for place in 0..code.len() {
+        if is_stop(code[place]) {
+            count += 1;
+        }
+    }
+    count
+}
 
 impl Book {
+    // How many events there are.
+    pub fn events(&self) -> u32
+        ensures { λ r. ⌜ r ≡ length (eventsOf (said (now (self .entry)) .code)) ⌝ }
+    {
+        count_stops(self.code())
+    }
+
     // The code of the clock's level.
     pub fn clock_level(&self) -> u16
         ensures { λ r. ⌜ r ≡ said (now (self .entry)) .clock ⌝ }

@@ -1,6 +1,7 @@
 // The reader: bytes to a book, or the first fault.
 ghost use Prim.Native.Nat.{_+_, _*_, _≤_};
 ghost use Rattle.book.specs.Books.{outcome};
+ghost use Rattle.book.specs.Encodings.{ReaderLaw};
 ghost use Rattle.book.specs.Reads.{Placed, firstOf, raws, readBody, readCode, reading, scan as scanned, sound};
 ghost use Rattle.stack.specs.Stacks.{held};
 ghost use Rattle.std.specs.Vec.{made};
@@ -73,11 +74,19 @@ fn body(bytes: &[u8], figures: usize, count: usize) -> Result<Book, ReaderFault>
     Ok(Book { figures, count, clock, levels, starts, code })
 }
 
+// Changes nothing: a call brings the reader's law into its caller's proof.
+fn reader_law()
+    ensures { λ _. ⌜ ReaderLaw ⌝ }
+{
+}
+
 // The book that these bytes are, or the reader's fault: first the sizes and the length, then each
 // instruction in turn, then the missing last stop, then the weight of each event.
 pub fn read(bytes: &[u8]) -> Result<Book, ReaderFault>
     ensures outcome { λ r. ⌜ outcome r ≡ reading (now (bytes .entry)) ⌝ }
+    ensures law { λ _. ⌜ ReaderLaw ⌝ }
 {
+    reader_law();
     if bytes.len() < 6 {
         return Err(ReaderFault::Length);
     }

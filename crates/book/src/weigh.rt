@@ -64,7 +64,7 @@ impl Weighing {
     }
 }
 
-fn is_stop(instruction: Instruction) -> bool
+pub(crate) fn is_stop(instruction: Instruction) -> bool
     ensures { λ r. ⌜ r ≡ isStop instruction ⌝ }
 {
     match instruction {
