@@ -2,10 +2,12 @@ pub mod Accepts
 pub mod Blocks
 pub mod Bytes
 pub mod Decodes
+pub mod Factors
 pub mod FieldLaws
 pub mod Events
 pub mod Finishes
 pub mod Heaviest
+pub mod Ifs
 pub mod Looking
 pub mod Outcomes
 pub mod Parses

@@ -2,8 +2,8 @@
 use lib.Dec.{eqb, ltb}
 use lib.ListN.{length, getD, drop}
 use lib.Seq.{drop-append-add}
-use mathlib.Core.Bool.{false, cond, _&&_}
-use mathlib.Core.List.{List, [], _∷_, _++_}
+use mathlib.Core.Bool.{_&&_}
+use mathlib.Core.List.{List, _∷_, _++_}
 use mathlib.Core.Path.{_≡_, refl, ap, _∙_}
 use native.Mathlib.Omega.{arith}
 use Prim.Native.Nat.{ℕ, suc, _+_, _-_, _<_}
@@ -14,7 +14,6 @@ use Rattle.book.specs.Looks.{seek, isIf, matchingElse, ElseLaw}
 use Rattle.book.specs.Trees.{Code, flat}
 use Rattle.std.proofs.shelf.Lists.{append-assoc, length-append, getD-at}
 use Rattle.std.proofs.shelf.Tests.{and-from, and-right, cond-true, cond-false, lt-ltb, ne-eqb}
-use Rattle.std.specs.declared.option.Option.{Option}
 use Rattle.std.specs.declared.option.Option.the-variants.{Some, None}
 
 -- the same look ahead from places that are the same
@@ -75,13 +74,18 @@ seek-else q p r = seek-flat q 0 p (Else ∷ r)
 pub seek-end : {nv d h : ℕ} {f : Code} → Formed nv d h f → (p : ℕ) (r : List Instruction) → seek 0 p (flat f ++ (End ∷ r)) ≡ None
 seek-end q p r = seek-flat q 0 p (End ∷ r)
 
--- the look ahead from an if goes on right behind it
+-- where an if stands, the look ahead goes on right behind it
+pub at-if : (is : List Instruction) (p : ℕ) → p < length is → getD is p Stop ≡ If → matchingElse is p ≡ seek 0 (p + 1) (drop (p + 1) is)
+at-if is p within e =
+    cond-true (ltb p (length is) && isIf (getD is p Stop)) (seek 0 (p + 1) (drop (p + 1) is)) None (and-from (ltb p (length is)) (isIf (getD is p Stop)) (lt-ltb p (length is) within) (ap isIf e))
+
+-- the same, with what stands before the if
 pub from-if : (front back : List Instruction) → matchingElse (front ++ (If ∷ back)) (length front) ≡ seek 0 (length front + 1) back
 from-if front back =
     let is = front ++ (If ∷ back) in
     let p = length front in
     let within : p < length is = omega (arith, length-append front (If ∷ back)) in
-    cond-true (ltb p (length is) && isIf (getD is p Stop)) (seek 0 (p + 1) (drop (p + 1) is)) None (and-from (ltb p (length is)) (isIf (getD is p Stop)) (lt-ltb p (length is) within) (ap isIf (getD-at front If back Stop p refl)))
+    at-if is p within (getD-at front If back Stop p refl)
     ∙ ap (λ l. seek 0 (p + 1) l) (drop-append-add front (If ∷ back) 1)
 
 -- The law of looking ahead.

@@ -24,7 +24,10 @@ impl Drop for Lookahead<'_> {
         ensures { λ _. ⌜ now (self .exit .0) .place ≡ self .entry .start ⌝ }
     {
         self.cursor.place = self.start;
-        let Lookahead { cursor: _, start: _ } = self;
+        let Lookahead {
+            cursor: _,
+            start: _,
+        } = self;
     }
 }
 
@@ -107,6 +110,11 @@ impl Lookahead<'_> {
     }
 }
 
+// Changes nothing: a call brings the law of matching elses into its caller's proof.
+fn else_law()
+    ensures { λ _. ⌜ ElseLaw ⌝ }
+{}
+
 impl Cursor {
     pub fn new(place: usize) -> Self
         ensures { λ r. ⌜ r .place ≡ place ⌝ }
@@ -124,9 +132,14 @@ impl Cursor {
     pub fn matching_else(&mut self, code: &[Instruction]) -> Option<usize>
         ensures found { λ r. ⌜ r ≡ matchingElse (now (code .entry)) (now (self .entry) .place) ⌝ }
         ensures same { λ _. ⌜ now (self .exit) .place ≡ now (self .entry) .place ⌝ }
+        ensures law { λ _. ⌜ ElseLaw ⌝ }
     {
+        else_law();
         let start = self.place;
-        let mut ahead = Lookahead { cursor: self, start };
+        let mut ahead = Lookahead {
+            cursor: self,
+            start,
+        };
         if start >= code.len() || !is_if(code[start]) {
             return None;
         }

@@ -9,7 +9,11 @@ use crate::instruction::Operation;
 fn natural(limit: u16, argument: i32) -> Option<u16>
     ensures { λ r. ⌜ r ≡ naturalBelow limit argument ⌝ }
 {
-    if argument >= 0 && argument < limit as i32 { Some(argument as u16) } else { None }
+    if argument >= 0 && argument < limit as i32 {
+        Some(argument as u16)
+    } else {
+        None
+    }
 }
 
 // The number of one of the book's figures.
@@ -24,7 +28,11 @@ fn figure(figures: usize, argument: i32) -> Option<u8>
 fn alone(instruction: Instruction, argument: i32) -> Option<Instruction>
     ensures { λ r. ⌜ r ≡ aloneOf instruction argument ⌝ }
 {
-    if argument == 0 { Some(instruction) } else { None }
+    if argument == 0 {
+        Some(instruction)
+    } else {
+        None
+    }
 }
 
 // The instruction that a code and an argument are, if they are one.

@@ -35,6 +35,10 @@ impl ReaderFault {
             ReaderFault::Nesting(place) => (5, place),
             ReaderFault::Weight(place) => (6, place),
         };
-        Refusal { number, layer: Layer::Reader, place }
+        Refusal {
+            number,
+            layer: Layer::Reader,
+            place,
+        }
     }
 }

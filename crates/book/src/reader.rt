@@ -21,7 +21,13 @@ use crate::scan::Scan;
 use crate::weigh::closing_fault;
 
 // The instruction at a place: decoded, and right for the stack and the open blocks.
-fn next_instruction(figures: usize, code: u8, argument: i32, scan: &mut Scan, place: u32) -> Result<Instruction, ReaderFault>
+fn next_instruction(
+    figures: usize,
+    code: u8,
+    argument: i32,
+    scan: &mut Scan,
+    place: u32,
+) -> Result<Instruction, ReaderFault>
     requires { ⌜ figures ≤ 32 ⌝ }
     ensures { λ r. ⌜ Placed figures code argument place (now (scan .entry) .height) (held (now (scan .entry) .blocks)) r (now (scan .exit) .height) (held (now (scan .exit) .blocks)) ⌝ }
 {
@@ -34,7 +40,12 @@ fn next_instruction(figures: usize, code: u8, argument: i32, scan: &mut Scan, pl
 }
 
 // The instructions, in the first places of the row, or the first fault of one.
-fn instructions(bytes: &[u8], figures: usize, at: usize, count: usize) -> Result<[Instruction; 256], ReaderFault>
+fn instructions(
+    bytes: &[u8],
+    figures: usize,
+    at: usize,
+    count: usize,
+) -> Result<[Instruction; 256], ReaderFault>
     requires { ⌜ figures ≤ 32 ⌝ ∗ ⌜ count ≤ 256 ⌝ ∗ ⌜ at + 5 * count ≤ length (now bytes) ⌝ }
     ensures long { λ r. ⌜ made r (λ row. length row ≡ 256) ⌝ }
     ensures items { λ r. ⌜ firstOf count r ≡ scanned figures 0 0 [] (raws count at (at + count) (now (bytes .entry))) ⌝ }
@@ -43,13 +54,24 @@ fn instructions(bytes: &[u8], figures: usize, at: usize, count: usize) -> Result
     let mut scan = Scan::new();
     for place in 0..count {
         let argument = long(bytes, at + count + 4 * place);
-        row[place] = next_instruction(figures, bytes[at + place], argument, &mut scan, place as u32)?;
+        row[place] = next_instruction(
+            figures,
+            bytes[at + place],
+            argument,
+            &mut scan,
+            place as u32,
+        )?;
     }
     Ok(row)
 }
 
 // The instructions of well-formed code, or its first fault.
-fn sound_code(bytes: &[u8], figures: usize, at: usize, count: usize) -> Result<[Instruction; 256], ReaderFault>
+fn sound_code(
+    bytes: &[u8],
+    figures: usize,
+    at: usize,
+    count: usize,
+) -> Result<[Instruction; 256], ReaderFault>
     requires { ⌜ figures ≤ 32 ⌝ ∗ ⌜ count ≤ 256 ⌝ ∗ ⌜ at + 5 * count ≤ length (now bytes) ⌝ }
     ensures long { λ r. ⌜ made r (λ row. length row ≡ 256) ⌝ }
     ensures sound { λ r. ⌜ made r (λ row. sound figures (take count row) ≡ true) ⌝ }
@@ -71,14 +93,20 @@ fn body(bytes: &[u8], figures: usize, count: usize) -> Result<Book, ReaderFault>
     let clock = word(bytes, 4);
     let levels = levels(bytes, 6, figures);
     let starts = starts(bytes, 6 + 2 * figures, figures);
-    Ok(Book { figures, count, clock, levels, starts, code })
+    Ok(Book {
+        figures,
+        count,
+        clock,
+        levels,
+        starts,
+        code,
+    })
 }
 
 // Changes nothing: a call brings the reader's law into its caller's proof.
 fn reader_law()
     ensures { λ _. ⌜ ReaderLaw ⌝ }
-{
-}
+{}
 
 // The book that these bytes are, or the reader's fault: first the sizes and the length, then each
 // instruction in turn, then the missing last stop, then the weight of each event.

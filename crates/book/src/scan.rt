@@ -46,7 +46,10 @@ impl Scan {
     pub(crate) fn new() -> Self
         ensures { λ r. ⌜ r .height ≡ 0 ⌝ ∗ ⌜ held (r .blocks) ≡ [] ⌝ }
     {
-        Scan { height: 0, blocks: Stack::new(Block::Turns) }
+        Scan {
+            height: 0,
+            blocks: Stack::new(Block::Turns),
+        }
     }
 
     // Whether an instruction may stand among the blocks that are open.
@@ -90,7 +93,8 @@ impl Scan {
         ensures blocks { λ _. ⌜ held (now (self .exit) .blocks) ≡ blocksAfter instruction (held (now (self .entry) .blocks)) ⌝ }
     {
         match instruction {
-            Instruction::Number(_) | Instruction::Figure(_) | Instruction::Clock => self.height += 1,
+            Instruction::Number(_) | Instruction::Figure(_) | Instruction::Clock => self.height +=
+                1,
             Instruction::Operate(_) => self.height -= 1,
             Instruction::Store(_) | Instruction::Wait(_) | Instruction::Stop => self.height = 0,
             Instruction::If => {

@@ -30,7 +30,11 @@ impl Weighing {
         ensures total { λ r. ⌜ r .total ≡ 0 ⌝ }
         ensures factors { λ r. ⌜ held (r .factors) ≡ [] ⌝ }
     {
-        Weighing { start, total: 0, factors: Stack::new(1) }
+        Weighing {
+            start,
+            total: 0,
+            factors: Stack::new(1),
+        }
     }
 
     // One instruction more.

@@ -40,7 +40,11 @@ impl CheckFault {
             CheckFault::Implicit(place) => (10, place),
             CheckFault::Parts(place) => (11, place),
         };
-        Refusal { number, layer: Layer::Check, place }
+        Refusal {
+            number,
+            layer: Layer::Check,
+            place,
+        }
     }
 }
 

@@ -34,6 +34,10 @@ impl MakerFault {
     pub fn refusal(self) -> Refusal
         ensures { λ r. ⌜ r ≡ makerRefusal self ⌝ }
     {
-        Refusal { number: 20, layer: Layer::Maker, place: 0 }
+        Refusal {
+            number: 20,
+            layer: Layer::Maker,
+            place: 0,
+        }
     }
 }

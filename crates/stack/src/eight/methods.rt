@@ -12,7 +12,10 @@ impl<T: Copy> Stack<T> {
     pub fn new(filler: T) -> Self
         ensures { λ r. ⌜ held r ≡ [] ⌝ }
     {
-        Stack { items: [filler; 8], count: 0 }
+        Stack {
+            items: [filler; 8],
+            count: 0,
+        }
     }
 
     // How many items there are.
@@ -56,6 +59,16 @@ impl<T: Copy> Stack<T> {
             return None;
         }
         Some(self.items[self.count - 1])
+    }
+
+    // The item under the top one, which stays.
+    pub fn second(&self) -> Option<T>
+        ensures { λ r. ⌜ r ≡ first (rest (held (now (self .entry)))) ⌝ }
+    {
+        if self.count < 2 {
+            return None;
+        }
+        Some(self.items[self.count - 2])
     }
 
     // Leaves no item.

@@ -10,8 +10,7 @@ pub loop-i-again : need.loop-i-again
 loop-i-again c =
     let bs = c .args .bytes .now in
     let l = c .loop-i in
-    let p = c .args .at in
-    (
+    let p = c .args .at in (
       search needs,
       row-more (λ n at. words n at bs) (word bs) 2 (λ n at. refl) (l .row) _ (c .args .count) (l .i) (p + 2 * l .i) (p + 2 * (l .i + 1)) (c .word .result) (omega arith) (omega arith) (omega arith) (c .word .ensures) (l .inv .1),
     )

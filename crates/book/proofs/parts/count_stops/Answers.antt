@@ -16,12 +16,12 @@ loop-place-again c =
     let rest = stops (drop (l .place + 1) code) in
     let on = at-drop-more stops code (l .place) Stop (c .loop-place-test .taken) in
     elim (c .if-is-stop .came) [
-      then-is-stop w ↦
-        let one = on ∙ ap (λ b. cond b 1 0 + rest) (sym (w .if-is-stop .ensures tt)) in
-        (omega (arith, w .count-is), omega (arith, one, w .count-is, l .inv .1))
-    | else-is-stop w ↦
-        let none = on ∙ ap (λ b. cond b 1 0 + rest) (sym (w .if-is-stop .ensures tt)) in
-        (omega (arith, w .count-is), omega (arith, none, w .count-is, l .inv .1))
+      | then-is-stop w ↦
+          let one = on ∙ ap (λ b. cond b 1 0 + rest) (sym (w .if-is-stop .ensures tt)) in
+          (omega (arith, w .count-is), omega (arith, one, w .count-is, l .inv .1))
+      | else-is-stop w ↦
+          let none = on ∙ ap (λ b. cond b 1 0 + rest) (sym (w .if-is-stop .ensures tt)) in
+          (omega (arith, w .count-is), omega (arith, none, w .count-is, l .inv .1))
     ]
 
 pub returns : need.returns

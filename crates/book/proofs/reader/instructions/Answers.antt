@@ -25,8 +25,7 @@ pub loop-place-again : need.loop-place-again
 loop-place-again c =
     let a = c .args in
     let l = c .loop-place in
-    let after = c .next-instruction .last .scan in
-    (
+    let after = c .next-instruction .last .scan in (
       search needs,
       scan-on (a .figures) (a .count) (a .at) (a .at + a .count) (a .bytes .now) (l .row) (l .place) (l .scan .height) (held (l .scan .blocks)) _ (omega arith) (toZ-ofZ w32 _ (search needs) ∙ c .long-argument .ensures) (c .in-Continue-row .field-0) (after .height) (held (after .blocks)) _ (omega arith) (c .in-Continue-row .ensures tt) (l .inv .1),
     )

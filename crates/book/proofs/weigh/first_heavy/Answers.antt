@@ -39,17 +39,17 @@ loop-place-again c =
     let start = added .start in
     let inv = l .inv in
     elim (c .if-is-stop .came) [
-      then-is-stop·else-event-ge-TOO-MUCH w ↦
-        let step = light-enough (l .place) (l .event .start) (l .event .total) ks i is (sym (w .if-is-stop .ensures tt)) (omega (arith, total, w .if-event-ge-TOO-MUCH .left)) in
-        let is-new = w .event-is in
-        let e1 = w .new-event-then-is-stop .ensures .start in
-        let e2 = w .new-event-then-is-stop .ensures .total in
-        let e3 = w .new-event-then-is-stop .ensures .factors in
-        cc
-    | else-is-stop w ↦
-        let step = within (l .place) (l .event .start) (l .event .total) ks i is (sym (w .if-is-stop .ensures tt)) in
-        let is-same = w .event-is in
-        cc
+      | then-is-stop·else-event-ge-TOO-MUCH w ↦
+          let step = light-enough (l .place) (l .event .start) (l .event .total) ks i is (sym (w .if-is-stop .ensures tt)) (omega (arith, total, w .if-event-ge-TOO-MUCH .left)) in
+          let is-new = w .event-is in
+          let e1 = w .new-event-then-is-stop .ensures .start in
+          let e2 = w .new-event-then-is-stop .ensures .total in
+          let e3 = w .new-event-then-is-stop .ensures .factors in
+          cc
+      | else-is-stop w ↦
+          let step = within (l .place) (l .event .start) (l .event .total) ks i is (sym (w .if-is-stop .ensures tt)) in
+          let is-same = w .event-is in
+          cc
     ]
 
 pub returns : need.returns

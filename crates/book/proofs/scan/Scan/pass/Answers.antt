@@ -7,7 +7,7 @@ use Rattle.stack.proofs.Tops.{few}
 use Rattle.stack.specs.Stacks.{held}
 
 pub returns-in-Else : need.returns-in-Else
-returns-in-Else c = 
+returns-in-Else c =
     let s = c .args .self .now .blocks in
     let e = replaced (held s) (few s) in
     search (needs, e)

@@ -1,0 +1,13 @@
+pub mod Breaking
+pub mod CheckLaw
+pub mod Events
+pub mod Firsts
+pub mod Flowing
+pub mod Levels
+pub mod Parts
+pub mod PartTolls
+pub mod Places
+pub mod Quiet
+pub mod Rules
+pub mod Tolling
+pub mod Walking
