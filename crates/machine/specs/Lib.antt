@@ -1,0 +1,7 @@
+pub mod Amounts
+pub mod Machines
+pub mod Runs
+pub mod Rules
+pub mod Jumps
+pub mod Bounds
+pub mod Privacy

@@ -1,0 +1,1 @@
+// The machine that runs one event of a book: exact amounts and an exact clock, for every meter.
