@@ -11,3 +11,4 @@ pub mod Quiet
 pub mod Rules
 pub mod Tolling
 pub mod Walking
+pub mod Worked

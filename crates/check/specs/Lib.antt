@@ -6,3 +6,4 @@ pub mod Checked
 pub mod Checks
 pub mod Flows
 pub mod Laws
+pub mod Worked
