@@ -20,3 +20,4 @@ pub mod Shapes
 pub mod Sounds
 pub mod Steps
 pub mod Weights
+pub mod Insides

@@ -1,5 +1,6 @@
 // The numbers that instructions have in a book's bytes.
 ghost use Rattle.book.specs.Codes.{codeOf, operationCode};
+ghost use Rattle.book.specs.Reads.{isStop};
 ghost use mathlib.Core.Path.{_≡_};
 use crate::instruction::Instruction;
 use crate::instruction::Operation;
@@ -33,5 +34,24 @@ pub fn code_of(instruction: Instruction) -> u8
         Instruction::Else => 14,
         Instruction::End => 15,
         Instruction::Stop => 16,
+    }
+}
+
+// Whether an instruction is a stop.
+pub fn is_stop(instruction: Instruction) -> bool
+    ensures { λ r. ⌜ r ≡ isStop instruction ⌝ }
+{
+    match instruction {
+        Instruction::Stop => true,
+        Instruction::Number(_)
+        | Instruction::Figure(_)
+        | Instruction::Clock
+        | Instruction::Operate(_)
+        | Instruction::Store(_)
+        | Instruction::If
+        | Instruction::Repeat(_)
+        | Instruction::Wait(_)
+        | Instruction::Else
+        | Instruction::End => false,
     }
 }

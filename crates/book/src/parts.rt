@@ -6,8 +6,9 @@ ghost use Rattle.book.specs.Trees.{events as eventsOf};
 ghost use lib.ListN.{length};
 ghost use mathlib.Core.Path.{_≡_};
 use crate::book::Book;
+use crate::codes::is_stop;
 use crate::instruction::Instruction;
-use crate::weigh::is_stop;
+
 
 // How many of the instructions are stops.
 fn count_stops(code: &[Instruction]) -> u32

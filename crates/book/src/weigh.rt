@@ -1,11 +1,12 @@
 // The weights of events: how many instructions a run of each could come to at most.
 ghost use Prim.Native.Nat.{_+_, _≤_};
-ghost use Rattle.book.specs.Reads.{isStop, stopsLast};
+ghost use Rattle.book.specs.Reads.{stopsLast};
 ghost use Rattle.book.specs.Weighs.{capped, closingFault, factor as factorOf, factorsAfter, heaviest};
 ghost use Rattle.stack.specs.Stacks.{held};
 ghost use lib.ListN.{length};
 ghost use mathlib.Core.List.{[]};
 ghost use mathlib.Core.Path.{_≡_};
+use crate::codes::is_stop;
 use crate::fault::ReaderFault;
 use crate::instruction::Instruction;
 use stack::Stack;
@@ -65,24 +66,6 @@ impl Weighing {
             | Instruction::Else
             | Instruction::Stop => {}
         }
-    }
-}
-
-pub(crate) fn is_stop(instruction: Instruction) -> bool
-    ensures { λ r. ⌜ r ≡ isStop instruction ⌝ }
-{
-    match instruction {
-        Instruction::Stop => true,
-        Instruction::Number(_)
-        | Instruction::Figure(_)
-        | Instruction::Clock
-        | Instruction::Operate(_)
-        | Instruction::Store(_)
-        | Instruction::If
-        | Instruction::Repeat(_)
-        | Instruction::Wait(_)
-        | Instruction::Else
-        | Instruction::End => false,
     }
 }
 

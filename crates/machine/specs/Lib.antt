@@ -1,8 +1,11 @@
 pub mod Amounts
 pub mod Machines
+pub mod Depths
+pub mod Events
 pub mod Runs
 pub mod Seen
 pub mod Rules
 pub mod Jumps
 pub mod Bounds
 pub mod Privacy
+pub mod Strictness

@@ -1,5 +1,8 @@
 // The machine that runs one event of a book: exact amounts and an exact clock, for every meter.
 mod amounts;
+mod jumps;
 pub mod machine;
+pub mod program;
+mod ready;
 mod steps;
 pub mod state;
