@@ -2,7 +2,7 @@
 use lib.Dec.{eqb}
 use lib.ListN.{length}
 use mathlib.Core.List.{List, _∷_, _++_}
-use mathlib.Core.Path.{_≡_, refl, ap, _∙_}
+use mathlib.Core.Path.{_≡_, ap, _∙_}
 use native.Mathlib.Omega.{arith}
 use Prim.Native.Nat.{ℕ, suc, _+_, _-_}
 use Rattle.book.specs.declared.instruction.Instruction.{Instruction}

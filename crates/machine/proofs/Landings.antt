@@ -12,10 +12,9 @@ use Rattle.book.proofs.Looking.{at-if, seek-else, seek-end}
 use Rattle.book.proofs.Parses.{parse-flat}
 use Rattle.book.specs.declared.instruction.Instruction.{Instruction}
 use Rattle.book.specs.declared.instruction.Instruction.the-variants.{Stop, Number, Figure, Clock, Operate, Store, If, Repeat, Wait, Else, End}
-use Rattle.book.specs.Forms.{Formed}
 use Rattle.book.specs.Looks.{matchingElse, seek}
 use Rattle.book.specs.Reads.{sound}
-use Rattle.book.specs.Trees.{Ahead, Code, branch, branched, closed, done, elsing, ending, flat, forked, grow, parse}
+use Rattle.book.specs.Trees.{Ahead, Code, branch, branched, closed, done, elsing, ending, flat, grow, parse}
 use Rattle.machine.proofs.Ends.{end-behind}
 use Rattle.machine.proofs.Through.{through}
 use Rattle.machine.specs.Jumps.{endBehind, endFrom, jumpFrom, leavesOut, target}

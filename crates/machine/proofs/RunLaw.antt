@@ -1,7 +1,7 @@
 -- Running is exactly what the rules allow.
 use mathlib.Core.Path.{refl}
 use native.Mathlib.Omega.{arith}
-use Rattle.machine.proofs.Going.{only}
+use Rattle.machine.proofs.RuleRuns.{only}
 use Rattle.machine.proofs.Strict.{goes}
 use Rattle.machine.specs.Runs.{started}
 use Rattle.machine.specs.Strictness.{RunLaw}

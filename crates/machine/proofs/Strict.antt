@@ -12,7 +12,7 @@ use Rattle.book.specs.declared.instruction.Operation.{Operation}
 use Rattle.book.specs.Forms
 use Rattle.book.specs.Forms.{Formed}
 use Rattle.book.specs.Trees.{Code, done, plain, branch, loop}
-use Rattle.machine.proofs.Going.{room, emptied-same, leaves-empty, turns-empty, keeps-figures, turns-keep}
+use Rattle.machine.proofs.RuleRuns.{room, emptied-same, leaves-empty, turns-empty, keeps-figures, turns-keep}
 use Rattle.machine.specs.Amounts.{isZero, operate}
 use Rattle.machine.specs.Machines.{Machine, later, reading, emptied, perform}
 use Rattle.machine.specs.Rules.{at, Goes, Turns, ends, number, figure, clock, operation, store, wait, first, second, turns, none, turn}

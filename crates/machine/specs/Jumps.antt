@@ -24,7 +24,7 @@ opened Else d = d
 opened End d = d - 1
 opened Stop d = d
 
--- whether an instruction is an end
+-- the place p if the instruction is the end that is looked for, else what is answered further on
 abbrev pub closesAt : Instruction → ℕ → ℕ → ℕ → ℕ
 closesAt (Number z) d p next = next
 closesAt (Figure v) d p next = next

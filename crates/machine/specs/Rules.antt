@@ -18,7 +18,7 @@ use Rattle.meter.specs.Meters.{MeterModel}
 abbrev pub at : List ℤ → List ℤ → ℕ → Machine
 at st fs t = record { stack = st; figures = fs; clock = t }
 
--- Goes m c s r: the stretch c takes the machine from s to r. Turns m i n f s r: n turns of the inside f of repeat i do.
+-- Goes m c s r: the stretch c takes the machine from s to r. Turns m n f s r: n turns of the inside f of a repeat do.
 mutual
   pub data Goes (m : MeterModel) : Code → Machine → Machine → Type 0 where
     ends : {fs : List ℤ} {t : ℕ} → Goes m done (at [] fs t) (at [] fs t)

@@ -4,5 +4,6 @@ mod jumps;
 pub mod machine;
 pub mod program;
 mod ready;
+mod run;
 mod steps;
 pub mod state;
