@@ -2,6 +2,7 @@ pub mod Amounts
 pub mod Machines
 pub mod Depths
 pub mod Events
+pub mod Ran
 pub mod Runs
 pub mod Seen
 pub mod Rules

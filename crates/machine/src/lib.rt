@@ -1,5 +1,6 @@
 // The machine that runs one event of a book: exact amounts and an exact clock, for every meter.
 mod amounts;
+mod events;
 mod jumps;
 pub mod machine;
 pub mod program;
