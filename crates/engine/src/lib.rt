@@ -1,0 +1,3 @@
+// The engine: it holds one checked book, runs its events, shows amounts and the clock to those who
+// may see them, and lets the owner release one figure on purpose by a slip.
+pub mod fault;
