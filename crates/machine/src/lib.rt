@@ -2,6 +2,7 @@
 mod amounts;
 mod events;
 mod jumps;
+mod ledger;
 pub mod machine;
 pub mod program;
 mod ready;

@@ -33,6 +33,13 @@ impl Program {
         Program { book, jumps }
     }
 
+    // The book.
+    pub fn book(&self) -> &Book
+        ensures { λ r. ⌜ now r ≡ now (self .entry) .book ⌝ }
+    {
+        &self.book
+    }
+
     // The place where an event starts.
     pub(crate) fn start_of(&self, event: u32) -> Option<usize>
         ensures { λ r. ⌜ r ≡ eventAt event 0 (said (now (self .entry) .book) .code) ⌝ }

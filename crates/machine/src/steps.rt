@@ -2,11 +2,9 @@
 ghost use Rattle.book.specs.declared.instruction.Instruction.the-variants.{Clock, Figure, If, Number, Operate, Repeat, Store, Wait};
 ghost use Rattle.machine.specs.Amounts.{isZero};
 ghost use Rattle.machine.specs.Machines.{amountAt, emptied, later, perform};
-ghost use Rattle.machine.specs.Seen.{machineOf, stateOf};
+ghost use Rattle.machine.specs.Seen.{machineOf};
 ghost use Rattle.meter.specs.Meters.{MeterModel};
 ghost use Rattle.stack.specs.Stacks.{held};
-ghost use lib.IntN.{pos};
-ghost use lib.ListN.{getD, set};
 ghost use mathlib.Core.Bool.{not};
 ghost use mathlib.Core.Path.{_≡_};
 use crate::amounts::operate;
@@ -31,25 +29,6 @@ impl State {
     }
 }
 
-impl State {
-    // The amount of a figure; 0 where there is no such figure.
-    pub(crate) fn amount_or_zero(&self, figure: u8) -> i32
-        ensures { λ r. ⌜ r ≡ getD (stateOf (now (self .entry)) .figures) figure (pos 0) ⌝ }
-    {
-        if (figure as usize) < self.count { self.amounts[figure as usize] } else { 0 }
-    }
-
-    // Sets a figure's amount; nothing where there is no such figure.
-    pub(crate) fn set_amount(&mut self, figure: u8, amount: i32)
-        ensures amounts { λ _. ⌜ stateOf (now (self .exit)) .figures ≡ set (stateOf (now (self .entry)) .figures) figure amount ⌝ }
-        ensures clock { λ _. ⌜ now (self .exit) .clock ≡ now (self .entry) .clock ⌝ }
-    {
-        if (figure as usize) < self.count {
-            self.amounts[figure as usize] = amount;
-        }
-    }
-}
-
 impl Machine {
     pub(crate) fn number<M: Meter>(&mut self, meter: &M, number: i32)
         ensures { λ _. ⌜ machineOf (now (self .exit)) ≡ perform (M·Meter .meaning (now (meter .entry))) (Number number) (machineOf (now (self .entry))) ⌝ }
@@ -61,7 +40,7 @@ impl Machine {
     pub(crate) fn figure<M: Meter>(&mut self, meter: &M, figure: u8)
         ensures { λ _. ⌜ machineOf (now (self .exit)) ≡ perform (M·Meter .meaning (now (meter .entry))) (Figure figure) (machineOf (now (self .entry))) ⌝ }
     {
-        let amount = self.state.amount_or_zero(figure);
+        let amount = self.state.amount(figure as usize);
         let _ = self.stack.push(amount);
         self.state.tick(meter.charge(2, 0, 0));
     }
@@ -88,7 +67,7 @@ impl Machine {
     {
         let amount = self.stack.top().unwrap_or(0);
         self.stack.clear();
-        self.state.set_amount(figure, amount);
+        self.state.set_amount(figure as usize, amount);
         self.state.tick(meter.charge(10, amount, 0));
     }
 

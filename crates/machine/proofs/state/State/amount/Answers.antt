@@ -5,7 +5,7 @@ use mathlib.Core.Path.{sym, _∙_}
 use mir.Syntax.{w32}
 use native.Mathlib.Omega.{arith}
 use Prim.Native.Nat.{_≤_}
-use Rattle.machine.proofs.state.State.amount_or_zero.Needs as need
+use Rattle.machine.proofs.state.State.amount.Needs as need
 use Rattle.std.proofs.shelf.Lists.{getD-past, getD-take, length-take-le}
 use Rattle.std.proofs.shelf.Signed.{toZ-ofZ}
 
