@@ -9,7 +9,6 @@ use crate::book::Book;
 use crate::codes::is_stop;
 use crate::instruction::Instruction;
 
-
 // How many of the instructions are stops.
 fn count_stops(code: &[Instruction]) -> u32
     requires { ⌜ length (now code) ≤ 256 ⌝ }

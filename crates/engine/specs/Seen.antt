@@ -1,13 +1,17 @@
 -- What an engine in memory is, and what its calls answered.
 use lib.IntN.{ℤ}
+use mathlib.Core.Path.{_≡_}
 use Prim.Native.Nat.{ℕ}
 use Rattle.book.specs.Books.{said}
 use Rattle.book.specs.Reads.{BookModel}
 use Rattle.engine.specs.declared.engine.Engine.{Engine}
 use Rattle.engine.specs.declared.fault.EngineFault.{EngineFault}
 use Rattle.engine.specs.declared.slip.Numbers.{Numbers}
+use Rattle.engine.specs.declared.fault.EngineFault.the-variants.{NotTheSlip}
+use Rattle.engine.specs.declared.slip.Refused.{Refused}
 use Rattle.engine.specs.declared.slip.Slip.{Slip}
-use Rattle.engine.specs.Models.{Answer, refused, loaded, accepted, amount, time, slip, counts, EngineModel, Paper}
+use Rattle.engine.specs.declared.slip.Tally.{Tally}
+use Rattle.engine.specs.Models.{Answer, refused, loaded, accepted, amount, time, slip, counts, EngineModel, Paper, askSlip}
 use Rattle.machine.specs.declared.program.Program.{Program}
 use Rattle.machine.specs.Seen.{stateOf}
 use Rattle.std.specs.declared.option.Option.{Option}
@@ -56,3 +60,21 @@ clockAnswer (Err f) = refused f
 abbrev pub openAnswer : Result Slip EngineFault → Answer
 openAnswer (Ok x) = slip (paperOf (x .numbers))
 openAnswer (Err f) = refused f
+
+-- what was answered to a carry or a withdrawal, and to a tally
+abbrev pub slipAnswer : {A : Type 0} → Result A Refused → Answer
+slipAnswer (Ok x) = accepted
+slipAnswer (Err x) = refused (x .fault)
+
+abbrev pub tallyAnswer : Tally → Answer
+tallyAnswer t = counts (t .openings) (t .carries) (t .withdrawals)
+
+-- a refused slip comes back the same
+abbrev pub Back : {A : Type 0} → Slip → Result A Refused → Type 0
+Back x (Ok y) = Unit {0}
+Back x (Err y) = y .slip .numbers ≡ x .numbers
+
+-- a slip is destroyed only if it is not the one that is out; that one comes back the same
+abbrev pub Voided : {A : Type 0} → Option Paper → Slip → Result A Slip → Type 0
+Voided out x (Ok y) = askSlip out (paperOf (x .numbers)) ≡ Some NotTheSlip
+Voided out x (Err y) = (askSlip out (paperOf (x .numbers)) ≡ None) × (y .numbers ≡ x .numbers)

@@ -44,7 +44,11 @@ impl EngineFault {
             EngineFault::TooManyOpenings => (18, 0),
             EngineFault::SameFigure(figure) => (19, figure),
         };
-        Refusal { number, layer: Layer::Engine, place }
+        Refusal {
+            number,
+            layer: Layer::Engine,
+            place,
+        }
     }
 }
 

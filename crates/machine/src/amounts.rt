@@ -24,19 +24,7 @@ pub(crate) fn operate(operation: Operation, first: i32, second: i32) -> i32
         Operation::Subtract => first.saturating_sub(second),
         Operation::Multiply => first.saturating_mul(second),
         Operation::Divide => divide(first, second),
-        Operation::Less => {
-            if first < second {
-                1
-            } else {
-                0
-            }
-        }
-        Operation::Equal => {
-            if first == second {
-                1
-            } else {
-                0
-            }
-        }
+        Operation::Less => { if first < second { 1 } else { 0 } }
+        Operation::Equal => { if first == second { 1 } else { 0 } }
     }
 }

@@ -24,7 +24,11 @@ impl State {
         for figure in 0..count {
             amounts[figure] = starts[figure];
         }
-        State { amounts, count, clock: 0 }
+        State {
+            amounts,
+            count,
+            clock: 0,
+        }
     }
 }
 
@@ -49,7 +53,10 @@ impl Program {
         let Some(start) = self.start_of(event) else {
             return false;
         };
-        let mut machine = Machine { stack: Stack::new(0), state: *state };
+        let mut machine = Machine {
+            stack: Stack::new(0),
+            state: *state,
+        };
         self.run_from(meter, start, &mut machine);
         *state = machine.state;
         true

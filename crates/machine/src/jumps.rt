@@ -14,13 +14,7 @@ fn depth_behind(instruction: Instruction, depth: usize) -> Option<usize>
 {
     match instruction {
         Instruction::If | Instruction::Repeat(_) => Some(depth + 1),
-        Instruction::End => {
-            if depth == 0 {
-                None
-            } else {
-                Some(depth - 1)
-            }
-        }
+        Instruction::End => { if depth == 0 { None } else { Some(depth - 1) } }
         Instruction::Number(_)
         | Instruction::Figure(_)
         | Instruction::Clock

@@ -11,14 +11,22 @@ impl State {
     pub fn empty() -> Self
         ensures { λ r. ⌜ stateOf r ≡ record { figures = []; clock = 0 } ⌝ }
     {
-        State { amounts: [0; 32], count: 0, clock: 0 }
+        State {
+            amounts: [0; 32],
+            count: 0,
+            clock: 0,
+        }
     }
 
     // The amount of a figure; 0 where there is no such figure.
     pub fn amount(&self, figure: usize) -> i32
         ensures { λ r. ⌜ r ≡ getD (stateOf (now (self .entry)) .figures) figure (pos 0) ⌝ }
     {
-        if figure < self.count { self.amounts[figure] } else { 0 }
+        if figure < self.count {
+            self.amounts[figure]
+        } else {
+            0
+        }
     }
 
     // Sets a figure's amount; nothing where there is no such figure.

@@ -7,5 +7,5 @@ pub mod machine;
 pub mod program;
 mod ready;
 mod run;
-mod steps;
 pub mod state;
+mod steps;

@@ -1,13 +1,19 @@
 // The calls on an engine. Each is one step of the model, refused or accepted.
 ghost use Rattle.book.specs.Books.{said};
 ghost use Rattle.engine.specs.Calls.{answer, next};
-ghost use Rattle.engine.specs.Models.{askFigure, askLevel, clock as clockCall, fresh, load as loadCall, openSlip, put as putCall, run as runCall, show as showCall};
+ghost use Rattle.engine.specs.Models.{askApart, askFigure, askLevel, askSight, askSlip, carry as carryCall, clock as clockCall, fresh, load as loadCall, openSlip, orElse, put as putCall, run as runCall, show as showCall, tally as tallyCall, unless, withdraw as withdrawCall};
 ghost use Rattle.engine.specs.Promises.{Promise};
-ghost use Rattle.engine.specs.Seen.{clockAnswer, engineOf, loadAnswer, openAnswer, plainAnswer, showAnswer};
+ghost use Rattle.engine.specs.Seen.{Back, Voided, clockAnswer, engineOf, loadAnswer, openAnswer, outOf, paperOf, plainAnswer, showAnswer, slipAnswer, tallyAnswer};
+ghost use Rattle.engine.specs.declared.fault.EngineFault.the-variants.{NotTheSlip};
 ghost use mathlib.Core.Path.{_≡_};
 use crate::engine::Engine;
 use crate::fault::EngineFault;
 use crate::fault::EngineFaultFromCheck;
+use crate::slip::Numbers;
+use crate::slip::Refused;
+use crate::slip::Slip;
+use crate::slip::Tally;
+use book::book::Book;
 use check::checker::check;
 use machine::program::Program;
 use machine::state::State;
@@ -113,5 +119,134 @@ impl<S: Scale, M: Meter> Engine<S, M> {
             return Err(EngineFault::Hidden(32));
         }
         Ok(self.state.clock())
+    }
+
+    // What is asked of the figures of a slip before it is opened.
+    fn ask_figures(&self, book: &Book, holder: u16, from: u32, to: u32) -> Option<EngineFault>
+        ensures { λ r. ⌜ r ≡ orElse (askLevel (S·Scale .meaning (now (self .entry) .scale)) holder) (orElse (askFigure (said (now (book .entry))) from) (orElse (askFigure (said (now (book .entry))) to) (orElse (askApart from to) (askSight (S·Scale .meaning (now (self .entry) .scale)) (said (now (book .entry))) holder from)))) ⌝ }
+    {
+        if !self.scale.known(holder) {
+            return Some(EngineFault::UnknownLevel(holder));
+        }
+        let levels = book.levels();
+        if from as usize >= levels.len() {
+            return Some(EngineFault::NoSuch(from));
+        }
+        if to as usize >= levels.len() {
+            return Some(EngineFault::NoSuch(to));
+        }
+        if from == to {
+            return Some(EngineFault::SameFigure(from));
+        }
+        if !self.scale.at_or_below(levels[from as usize], holder) {
+            return Some(EngineFault::Hidden(from));
+        }
+        None
+    }
+
+    // Opens a slip for a holder of this level, from one figure to another.
+    pub fn open_slip(&mut self, holder: u16, from: u32, to: u32) -> Result<Slip, EngineFault>
+        ensures answer { λ r. ⌜ openAnswer r ≡ answer (S·Scale .meaning (now (self .entry) .scale)) (M·Meter .meaning (now (self .entry) .meter)) (engineOf (now (self .entry))) (openSlip holder from to) ⌝ }
+        ensures after { λ _. ⌜ engineOf (now (self .exit)) ≡ next (S·Scale .meaning (now (self .entry) .scale)) (M·Meter .meaning (now (self .entry) .meter)) (engineOf (now (self .entry))) (openSlip holder from to) ⌝ }
+        ensures kept { λ _. ⌜ now (self .exit) .scale ≡ now (self .entry) .scale ⌝ ∗ ⌜ now (self .exit) .meter ≡ now (self .entry) .meter ⌝ }
+    {
+        let Some(program) = &self.program else {
+            return Err(EngineFault::NoBook);
+        };
+        if let Some(fault) = self.ask_figures(program.book(), holder, from, to) {
+            return Err(fault);
+        }
+        if self.out.is_some() {
+            return Err(EngineFault::SlipOut);
+        }
+        if self.openings >= 65_535 {
+            return Err(EngineFault::TooManyOpenings);
+        }
+        self.openings += 1;
+        let numbers = Numbers {
+            holder,
+            from,
+            to,
+            number: self.openings,
+        };
+        self.out = Some(numbers);
+        Ok(Slip { numbers })
+    }
+
+    // Whether these are the numbers of the slip that is out.
+    fn is_out(&self, numbers: Numbers) -> bool
+        ensures { λ r. ⌜ unless r NotTheSlip ≡ askSlip (outOf (now (self .entry) .out)) (paperOf numbers) ⌝ }
+    {
+        match self.out {
+            Some(out) => {
+                out.holder == numbers.holder
+                    && out.from == numbers.from
+                    && out.to == numbers.to
+                    && out.number == numbers.number
+            }
+            None => false,
+        }
+    }
+
+    // Carries a slip: its second figure gets the amount that its first one has now, without ticks.
+    pub fn carry(&mut self, slip: Slip) -> Result<(), Refused>
+        ensures answer { λ r. ⌜ slipAnswer r ≡ answer (S·Scale .meaning (now (self .entry) .scale)) (M·Meter .meaning (now (self .entry) .meter)) (engineOf (now (self .entry))) (carryCall (paperOf (slip .numbers))) ⌝ }
+        ensures back { λ r. ⌜ Back slip r ⌝ }
+        ensures after { λ _. ⌜ engineOf (now (self .exit)) ≡ next (S·Scale .meaning (now (self .entry) .scale)) (M·Meter .meaning (now (self .entry) .meter)) (engineOf (now (self .entry))) (carryCall (paperOf (slip .numbers))) ⌝ }
+        ensures kept { λ _. ⌜ now (self .exit) .scale ≡ now (self .entry) .scale ⌝ ∗ ⌜ now (self .exit) .meter ≡ now (self .entry) .meter ⌝ }
+    {
+        if !self.is_out(slip.numbers) {
+            return Err(Refused {
+                slip,
+                fault: EngineFault::NotTheSlip,
+            });
+        }
+        let numbers = slip.end();
+        let amount = self.state.amount(numbers.from as usize);
+        self.state.set_amount(numbers.to as usize, amount);
+        self.out = None;
+        self.carries += 1;
+        Ok(())
+    }
+
+    // Withdraws a slip: it is used up, and nothing moves.
+    pub fn withdraw(&mut self, slip: Slip) -> Result<(), Refused>
+        ensures answer { λ r. ⌜ slipAnswer r ≡ answer (S·Scale .meaning (now (self .entry) .scale)) (M·Meter .meaning (now (self .entry) .meter)) (engineOf (now (self .entry))) (withdrawCall (paperOf (slip .numbers))) ⌝ }
+        ensures back { λ r. ⌜ Back slip r ⌝ }
+        ensures after { λ _. ⌜ engineOf (now (self .exit)) ≡ next (S·Scale .meaning (now (self .entry) .scale)) (M·Meter .meaning (now (self .entry) .meter)) (engineOf (now (self .entry))) (withdrawCall (paperOf (slip .numbers))) ⌝ }
+        ensures kept { λ _. ⌜ now (self .exit) .scale ≡ now (self .entry) .scale ⌝ ∗ ⌜ now (self .exit) .meter ≡ now (self .entry) .meter ⌝ }
+    {
+        if !self.is_out(slip.numbers) {
+            return Err(Refused {
+                slip,
+                fault: EngineFault::NotTheSlip,
+            });
+        }
+        let _ = slip.end();
+        self.out = None;
+        self.withdrawals += 1;
+        Ok(())
+    }
+
+    // Destroys a slip that is worth nothing here; the one that is out comes back.
+    pub fn void(&self, slip: Slip) -> Result<(), Slip>
+        ensures { λ r. ⌜ Voided (outOf (now (self .entry) .out)) slip r ⌝ }
+    {
+        if self.is_out(slip.numbers) {
+            return Err(slip);
+        }
+        let _ = slip.end();
+        Ok(())
+    }
+
+    // The openings, carries and withdrawals accepted since the engine was made.
+    pub fn tally(&self) -> Tally
+        ensures { λ r. ⌜ tallyAnswer r ≡ answer (S·Scale .meaning (now (self .entry) .scale)) (M·Meter .meaning (now (self .entry) .meter)) (engineOf (now (self .entry))) tallyCall ⌝ }
+    {
+        Tally {
+            openings: self.openings,
+            carries: self.carries,
+            withdrawals: self.withdrawals,
+        }
     }
 }

@@ -23,8 +23,7 @@ loop-at-again c =
     let i = getD code (l .at) Stop in
     let rest = endFrom (opened i (l .depth)) (l .at + 1) (drop (l .at + 1) code) in
     let on = at-drop-more (endFrom (l .depth) (l .at)) code (l .at) Stop (omega arith) in
-    let seen = c .in-Some .ensures tt in
-    (
+    let seen = c .in-Some .ensures tt in (
       omega (arith, seen .1),
       ap (λ d. endFrom d (l .at + 1) (drop (l .at + 1) code)) (seen .0) ∙ sym (on ∙ seen .2 (l .at) rest) ∙ l .inv .1,
     )

@@ -10,8 +10,7 @@ use Rattle.machine.specs.Jumps.{jumpFrom, jumpsFrom}
 pub loop-place-again : need.loop-place-again
 loop-place-again c =
     let code = c .args .code .now in
-    let l = c .loop-place in
-    (
+    let l = c .loop-place in (
       search needs,
       row-more (λ n p. jumpsFrom code n p) (jumpFrom code) 1 (λ n p. refl) (l .row) _ (length code) (l .place) (l .place) (l .place + 1) (c .jump-from .result) (omega arith) (omega arith) refl (c .jump-from .ensures .to) (l .inv .1),
     )

@@ -26,12 +26,12 @@ loop-place-again c =
     let is = drop (l .place + 1) code in
     let on = at-drop-more (eventAt (l .left) (l .place)) code (l .place) Stop (c .loop-place-test .taken) ∙ event-on (l .left) (l .place) i is (omega arith) in
     elim (c .if-is-stop .came) [
-      then-is-stop w ↦
-        let stop = ap (λ b. cond b (eventAt (l .left - 1) (l .place + 1) is) (eventAt (l .left) (l .place + 1) is)) (sym (w .if-is-stop .ensures tt)) in
-        ap (λ n. eventAt n (l .place + 1) is) (w .left-is) ∙ sym (on ∙ stop) ∙ l .inv
-    | else-is-stop w ↦
-        let no-stop = ap (λ b. cond b (eventAt (l .left - 1) (l .place + 1) is) (eventAt (l .left) (l .place + 1) is)) (sym (w .if-is-stop .ensures tt)) in
-        ap (λ n. eventAt n (l .place + 1) is) (w .left-is) ∙ sym (on ∙ no-stop) ∙ l .inv
+      | then-is-stop w ↦
+          let stop = ap (λ b. cond b (eventAt (l .left - 1) (l .place + 1) is) (eventAt (l .left) (l .place + 1) is)) (sym (w .if-is-stop .ensures tt)) in
+          ap (λ n. eventAt n (l .place + 1) is) (w .left-is) ∙ sym (on ∙ stop) ∙ l .inv
+      | else-is-stop w ↦
+          let no-stop = ap (λ b. cond b (eventAt (l .left - 1) (l .place + 1) is) (eventAt (l .left) (l .place + 1) is)) (sym (w .if-is-stop .ensures tt)) in
+          ap (λ n. eventAt n (l .place + 1) is) (w .left-is) ∙ sym (on ∙ no-stop) ∙ l .inv
     ]
 
 pub returns : need.returns

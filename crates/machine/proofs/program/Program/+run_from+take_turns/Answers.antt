@@ -161,8 +161,7 @@ run-from-loop-place-again-else-test g t c =
     let at : getD code p Stop ≡ If = ap (λ is. getD is p Stop) (sym (c .code-code .ensures)) ∙ c .in-If .is in
     let jump : getD (c .args .self .now .jumps) p 0 ≡ jumpFrom code p = in-table code (c .args .self .now .jumps) (length code) p (c .args .self .now .right) lt in
     let test : isZero (amountAt (s .stack) 0) ≡ true = not-false _ (sym (c .if-test .ensures tt .taken)) in
-    let step = go .left-out k p s lt at test in
-    (
+    let step = go .left-out k p s lt at test in (
       omega (arith, jump, step .1),
       omega (arith, jump, step .2, long),
       omega (arith, jump, step .1),
@@ -201,8 +200,7 @@ run-from-loop-place-again-in-Repeat g t c =
     let at : getD code p Stop ≡ Repeat (c .in-Repeat .count) = ap (λ is. getD is p Stop) (sym (c .code-code .ensures)) ∙ c .in-Repeat .is in
     let jump : getD (c .args .self .now .jumps) p 0 ≡ jumpFrom code p = in-table code (c .args .self .now .jumps) (length code) p (c .args .self .now .right) lt in
     let step = go .repeats k p (c .in-Repeat .count) s lt at in
-    let turned = c .leave .ensures ∙ ap emptied (c .take-turns .ensures) in
-    (
+    let turned = c .leave .ensures ∙ ap emptied (c .take-turns .ensures) in (
       omega (arith, jump, step .1),
       omega (arith, jump, step .2, long),
       omega (arith, jump, step .1),
@@ -240,8 +238,7 @@ run-from-loop-place-again-in-Else g t c =
     let lt : p < length code = omega (arith, long, c .loop-place-test .taken) in
     let at : getD code p Stop ≡ Else = ap (λ is. getD is p Stop) (sym (c .code-code .ensures)) ∙ c .in-Else .is in
     let jump : getD (c .args .self .now .jumps) p 0 ≡ jumpFrom code p = in-table code (c .args .self .now .jumps) (length code) p (c .args .self .now .right) lt in
-    let step = go .elses k p s lt at in
-    (
+    let step = go .elses k p s lt at in (
       omega (arith, jump, step .1),
       omega (arith, jump, step .2, long),
       omega (arith, jump, step .1),

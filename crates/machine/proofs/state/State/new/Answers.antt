@@ -20,8 +20,7 @@ loop-figure-again c =
     let z = getD starts (l .figure) (pos 0) in
     let fits : SFits w32 z = search needs in
     let same : toZ w32 (ofZ w32 z) ≡ z = toZ-ofZ w32 z fits in
-    let written = take-more-set (l .amounts) (l .figure) (toZ w32 (ofZ w32 z)) (omega arith) in
-    (
+    let written = take-more-set (l .amounts) (l .figure) (toZ w32 (ofZ w32 z)) (omega arith) in (
       search needs,
       written ∙ (λ i. l .inv .1 i ++ (same i ∷ [])) ∙ sym (take-more starts (l .figure) (pos 0) (omega arith)),
     )

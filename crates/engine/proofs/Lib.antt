@@ -1,0 +1,6 @@
+pub mod Asked
+pub mod Twins
+pub mod Learned
+pub mod Steps
+pub mod Counting
+pub mod Promised
