@@ -20,11 +20,24 @@ use machine::state::State;
 use meter::meter::Meter;
 use scale::scale::Scale;
 
+// Changes nothing: a call brings the promise into its caller's proof.
+fn promises<S: Scale, M: Meter>(scale: &S, meter: &M)
+    ensures { λ _. ⌜ Promise (S·Scale .meaning (now (scale .entry))) (M·Meter .meaning (now (meter .entry))) ⌝ }
+{
+    scale.laws();
+    meter.laws();
+}
+
 impl<S: Scale, M: Meter> Engine<S, M> {
-    // An engine with no book and no slip, clock and counts at 0.
+    // An engine with no book and no slip, clock and counts at 0. Each call on it is one step of the
+    // model, and of every list of calls it promises: whoever sees a level and below cannot tell it
+    // from another whose list differs in private puts alone, and slips add up.
     pub fn new(scale: S, meter: M) -> Self
         ensures made { λ r. ⌜ engineOf r ≡ fresh ⌝ }
+        ensures parts { λ r. ⌜ r .scale ≡ scale ⌝ ∗ ⌜ r .meter ≡ meter ⌝ }
+        ensures promise { λ _. ⌜ Promise (S·Scale .meaning scale) (M·Meter .meaning meter) ⌝ }
     {
+        promises(&scale, &meter);
         Engine {
             scale,
             meter,
