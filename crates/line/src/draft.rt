@@ -18,7 +18,7 @@ pub struct Draft {
 
 impl Draft {
     // The draft that says nothing.
-    pub fn empty() -> Draft
+    pub(crate) fn empty() -> Draft
         ensures sound { λ r. ⌜ Sound r ⌝ }
         ensures text { λ r. ⌜ said r ≡ [] ⌝ }
         ensures start { λ r. ⌜ r .start ≡ 32 ⌝ }
@@ -30,7 +30,7 @@ impl Draft {
     }
 
     // Puts a text before what the draft says.
-    pub fn put(&mut self, text: &[u8])
+    pub(crate) fn put(&mut self, text: &[u8])
         requires sound { ⌜ Sound (now self) ⌝ }
         requires room { ⌜ length (now text) ≤ now self .start ⌝ }
         ensures sound { λ _. ⌜ Sound (now (self .exit)) ⌝ }
@@ -43,7 +43,7 @@ impl Draft {
     }
 
     // Puts the digits of a number before what the draft says.
-    pub fn put_number(&mut self, number: u32)
+    pub(crate) fn put_number(&mut self, number: u32)
         requires sound { ⌜ Sound (now self) ⌝ }
         requires room { ⌜ 10 ≤ now self .start ⌝ }
         ensures sound { λ _. ⌜ Sound (now (self .exit)) ⌝ }
@@ -60,7 +60,7 @@ impl Draft {
     }
 
     // How many bytes the text has.
-    pub fn length(&self) -> usize
+    pub(crate) fn length(&self) -> usize
         requires { ⌜ Sound (now self) ⌝ }
         ensures { λ r. ⌜ r ≡ length (said (now (self .entry))) ⌝ }
     {
@@ -68,7 +68,7 @@ impl Draft {
     }
 
     // Copies the text to the start of a buffer.
-    pub fn copy_to(&self, buffer: &mut [u8])
+    pub(crate) fn copy_to(&self, buffer: &mut [u8])
         requires sound { ⌜ Sound (now self) ⌝ }
         requires room { ⌜ 32 ≤ length (now buffer) ⌝ }
         ensures { λ _. ⌜ now (buffer .exit) ≡ said (now (self .entry)) ++ drop (length (said (now (self .entry)))) (now (buffer .entry)) ⌝ }
