@@ -4,3 +4,4 @@ pub mod Learned
 pub mod Steps
 pub mod Counting
 pub mod Promised
+pub mod Worked

@@ -4,3 +4,4 @@ pub mod Models
 pub mod Calls
 pub mod Promises
 pub mod Seen
+pub mod Worked

@@ -4,6 +4,7 @@ ghost use Rattle.engine.specs.Calls.{answer, next};
 ghost use Rattle.engine.specs.Models.{askApart, askFigure, askLevel, askSight, askSlip, carry as carryCall, clock as clockCall, fresh, load as loadCall, openSlip, orElse, put as putCall, run as runCall, show as showCall, tally as tallyCall, unless, withdraw as withdrawCall};
 ghost use Rattle.engine.specs.Promises.{Promise};
 ghost use Rattle.engine.specs.Seen.{Back, Voided, clockAnswer, engineOf, loadAnswer, openAnswer, outOf, paperOf, plainAnswer, showAnswer, slipAnswer, tallyAnswer};
+ghost use Rattle.engine.specs.Worked.{WorkedExamples};
 ghost use Rattle.engine.specs.declared.fault.EngineFault.the-variants.{NotTheSlip};
 ghost use mathlib.Core.Path.{_≡_};
 use crate::engine::Engine;
@@ -28,6 +29,11 @@ fn promises<S: Scale, M: Meter>(scale: &S, meter: &M)
     meter.laws();
 }
 
+// Changes nothing: a call brings the worked examples into its caller's proof.
+fn worked_examples()
+    ensures { λ _. ⌜ WorkedExamples ⌝ }
+{}
+
 impl<S: Scale, M: Meter> Engine<S, M> {
     // An engine with no book and no slip, clock and counts at 0. Each call on it is one step of the
     // model, and of every list of calls it promises: whoever sees a level and below cannot tell it
@@ -36,8 +42,10 @@ impl<S: Scale, M: Meter> Engine<S, M> {
         ensures made { λ r. ⌜ engineOf r ≡ fresh ⌝ }
         ensures parts { λ r. ⌜ r .scale ≡ scale ⌝ ∗ ⌜ r .meter ≡ meter ⌝ }
         ensures promise { λ _. ⌜ Promise (S·Scale .meaning scale) (M·Meter .meaning meter) ⌝ }
+        ensures worked { λ _. ⌜ WorkedExamples ⌝ }
     {
         promises(&scale, &meter);
+        worked_examples();
         Engine {
             scale,
             meter,
