@@ -24,10 +24,16 @@ fn count_stops(code: &[Instruction]) -> u32
 }
 
 impl Book {
+    // Changes nothing: a call brings into its caller's proof that each event has one stop.
+    fn events_law(&self)
+        ensures { λ _. ⌜ stops (said (now (self .entry)) .code) ≡ length (eventsOf (said (now (self .entry)) .code)) ⌝ }
+    {}
+
     // How many events there are.
     pub fn events(&self) -> u32
         ensures { λ r. ⌜ r ≡ length (eventsOf (said (now (self .entry)) .code)) ⌝ }
     {
+        self.events_law();
         count_stops(self.code())
     }
 

@@ -3,6 +3,7 @@ ghost use Prim.Native.Nat.{_+_, _≤_};
 ghost use Rattle.book.specs.Reads.{stopsLast};
 ghost use Rattle.book.specs.Weighs.{capped, closingFault, factor as factorOf, factorsAfter, heaviest};
 ghost use Rattle.stack.specs.Stacks.{held};
+ghost use lib.Dec.{ltb};
 ghost use lib.ListN.{length};
 ghost use mathlib.Core.List.{[]};
 ghost use mathlib.Core.Path.{_≡_};
@@ -67,6 +68,13 @@ impl Weighing {
             | Instruction::Stop => {}
         }
     }
+
+    // Whether the event weighs too much so far.
+    fn heavy(&self) -> bool
+        ensures { λ r. ⌜ r ≡ ltb 100000 (now (self .entry) .total) ⌝ }
+    {
+        self.total >= TOO_MUCH
+    }
 }
 
 // The first instruction of the first event that weighs too much.
@@ -78,7 +86,7 @@ fn first_heavy(code: &[Instruction]) -> Option<u32>
     for place in 0..code.len() {
         event.add(code[place]);
         if is_stop(code[place]) {
-            if event.total >= TOO_MUCH {
+            if event.heavy() {
                 return Some(event.start);
             }
             event = Weighing::new(place as u32 + 1);

@@ -1,24 +1,16 @@
 -- The tolls of an if's parts in sound code, found by looking ahead for its else.
-use lib.ListN.{length, getD, drop}
+use lib.ListN.{length, getD}
 use mathlib.Core.Bool.{true}
-use mathlib.Core.List.{List, []}
+use mathlib.Core.List.{List}
 use mathlib.Core.Path.{_≡_, sym, _∙_}
-use Prim.Native.Nat.{ℕ, _+_, _≤_, _<_}
+use Prim.Native.Nat.{ℕ, _<_}
 use Rattle.book.proofs.Looking.{at-if}
 use Rattle.book.specs.declared.instruction.Instruction.{Instruction}
 use Rattle.book.specs.declared.instruction.Instruction.the-variants.{If, Stop}
-use Rattle.book.specs.Looks.{matchingElse}
 use Rattle.book.specs.Reads.{sound}
-use Rattle.book.specs.Trees.{here, parse}
 use Rattle.check.proofs.PartTolls.{first-toll, second-toll-none, second-toll-some}
-use Rattle.check.specs.Tolls.{secondAhead, toll, tolled}
+use Rattle.check.specs.Parts.{PartTolls}
 use Rattle.meter.specs.Meters.{Lawful, MeterModel}
-use Rattle.std.specs.declared.option.Option.the-variants.{None, Some}
-
-pub record PartTolls (m : MeterModel) (code : List Instruction) (p : ℕ) : Type 0 where
-  pub first : tolled m 0 [] (drop (p + 1) code) ≡ toll m (here (parse (drop (p + 1) code)))
-  pub second : (e : ℕ) → matchingElse code p ≡ Some e → (e + 1 ≤ length code) × (tolled m 0 [] (drop (e + 1) code) ≡ toll m (secondAhead (parse (drop (p + 1) code))))
-  pub missing : matchingElse code p ≡ None → toll m (secondAhead (parse (drop (p + 1) code))) ≡ 0
 
 pub part-tolls : (m : MeterModel) → Lawful m → (nv : ℕ) (code : List Instruction) (p : ℕ) → sound nv code ≡ true → p < length code → getD code p Stop ≡ If → PartTolls m code p
 part-tolls m law nv code p fine within is-if = record {

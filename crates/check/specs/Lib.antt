@@ -1,4 +1,5 @@
 pub mod Faults
+pub mod Parts
 pub mod Tolls
 pub mod Verdicts
 pub mod Walks

@@ -1,11 +1,13 @@
 // The check itself: bytes to a book that keeps every flow rule, or the first fault.
 ghost use Prim.Native.Nat.{_+_, _≤_, _<_};
 ghost use Rattle.book.specs.Books.{said};
+ghost use Rattle.book.specs.Encodings.{ReaderLaw};
 ghost use Rattle.book.specs.Trees.{here, parse};
 ghost use Rattle.book.specs.declared.instruction.Instruction.the-variants.{If, Stop};
 ghost use Rattle.check.specs.Checked.{outcome};
 ghost use Rattle.check.specs.Checks.{checking, checkingBytes, setting, unknown};
 ghost use Rattle.check.specs.Laws.{CheckLaw};
+ghost use Rattle.check.specs.Parts.{PartTolls};
 ghost use Rattle.check.specs.Tolls.{secondAhead, toll};
 ghost use Rattle.check.specs.Walks.{faultAt, walk as walkFrom};
 ghost use Rattle.stack.specs.Stacks.{held};
@@ -25,6 +27,14 @@ use book::reader::read;
 use meter::meter::Meter;
 use scale::scale::Scale;
 
+// The place of a figure's level in a refusal: place 0 is the clock's.
+fn level_place(figure: usize) -> u32
+    requires { ⌜ figure < 32 ⌝ }
+    ensures { λ r. ⌜ r ≡ 1 + figure ⌝ }
+{
+    1 + figure as u32
+}
+
 // The first figure whose level the scale does not know.
 fn unknown_figure<S: Scale>(scale: &S, levels: &[u16]) -> Option<CheckFault>
     requires { ⌜ length (now levels) ≤ 32 ⌝ }
@@ -32,7 +42,7 @@ fn unknown_figure<S: Scale>(scale: &S, levels: &[u16]) -> Option<CheckFault>
 {
     for figure in 0..levels.len() {
         if !scale.known(levels[figure]) {
-            return Some(CheckFault::Level(1 + figure as u32));
+            return Some(CheckFault::Level(level_place(figure)));
         }
     }
     None
@@ -48,12 +58,20 @@ fn unknown_level<S: Scale>(scale: &S, book: &Book) -> Option<CheckFault>
     unknown_figure(scale, book.levels())
 }
 
+// Changes nothing: a call brings the tolls of an if's parts into its caller's proof.
+fn parts_law<M: Meter>(meter: &M, book: &Book, place: usize)
+    requires { ⌜ getD (said (now book) .code) place Stop ≡ If ⌝ ∗ ⌜ place < length (said (now book) .code) ⌝ }
+    ensures { λ _. ⌜ PartTolls (M·Meter .meaning (now (meter .entry))) (said (now (book .entry)) .code) place ⌝ }
+{
+    meter.laws();
+}
+
 // Whether the two parts of the if at a place have different tolls.
 fn parts_differ<M: Meter>(meter: &M, book: &Book, place: usize) -> bool
     requires { ⌜ getD (said (now book) .code) place Stop ≡ If ⌝ ∗ ⌜ place < length (said (now book) .code) ⌝ }
     ensures { λ r. ⌜ r ≡ not (eqb (toll (M·Meter .meaning (now (meter .entry))) (here (parse (drop (place + 1) (said (now (book .entry)) .code))))) (toll (M·Meter .meaning (now (meter .entry))) (secondAhead (parse (drop (place + 1) (said (now (book .entry)) .code)))))) ⌝ }
 {
-    meter.laws();
+    parts_law(meter, book, place);
     let code = book.code();
     let first = toll_from(meter, code, place + 1);
     let mut cursor = Cursor::new(place);
@@ -134,6 +152,7 @@ fn check_law<S: Scale, M: Meter>(scale: &S, meter: &M)
 pub fn check<S: Scale, M: Meter>(scale: &S, meter: &M, bytes: &[u8]) -> Result<Book, CheckFault>
     ensures outcome { λ r. ⌜ outcome r ≡ checkingBytes (S·Scale .meaning (now (scale .entry))) (M·Meter .meaning (now (meter .entry))) (now (bytes .entry)) ⌝ }
     ensures law { λ _. ⌜ CheckLaw (S·Scale .meaning (now (scale .entry))) (M·Meter .meaning (now (meter .entry))) ⌝ }
+    ensures reads { λ _. ⌜ ReaderLaw ⌝ }
 {
     check_law(scale, meter);
     let book = read(bytes)?;

@@ -35,4 +35,5 @@ worked-examples =
       nothing = refl;
       put-any = λ a. refl;
       hidden-figure = refl;
+      released = refl;
     }

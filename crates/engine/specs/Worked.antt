@@ -11,9 +11,9 @@ use Rattle.book.specs.Encodings.{encode}
 use Rattle.book.specs.Reads.{BookModel}
 use Rattle.check.specs.Worked.{WorkedBooks, cardOfOnes, evened, publicClock, squared, unevenCode, withClock}
 use Rattle.engine.specs.Calls.{answer, next}
-use Rattle.engine.specs.declared.fault.EngineFault.the-variants.{Hidden}
+use Rattle.engine.specs.declared.fault.EngineFault.the-variants.{Hidden, NotTheSlip, SlipOut}
 use Rattle.engine.specs.Faults.{engine, engineRefusal}
-use Rattle.engine.specs.Models.{Answer, refused, loaded, accepted, amount, time, Call, load, put, run, show, clock, EngineModel, fresh}
+use Rattle.engine.specs.Models.{Answer, refused, loaded, accepted, amount, time, slip, counts, Call, load, put, run, show, clock, openSlip, carry, tally, EngineModel, Paper, fresh}
 use Rattle.machine.specs.Amounts.{operate}
 use Rattle.meter.specs.Digits.{digit}
 use Rattle.meter.specs.Meters.{MeterModel}
@@ -48,6 +48,10 @@ squaredPrivate = withClock 1 (squared .code)
 abbrev pub waiting : ℕ → BookModel
 waiting n = publicClock (Repeat n ∷ Wait 2 ∷ End ∷ Stop ∷ [])
 
+-- the first slip that is opened: a holder of level 1 may carry S into P
+abbrev pub release : Paper
+release = record { holder = 1; from = 1; to = 0; number = 1 }
+
 -- The verdicts on the worked books, and what runs and calls answer.
 pub record WorkedExamples : Type 0 where
   pub books : WorkedBooks
@@ -77,3 +81,5 @@ pub record WorkedExamples : Type 0 where
   -- a put is answered alike whatever the amount, and level 0 is not shown what S then has, but level 1 is
   pub put-any : (a : ℤ) → answers cardOfOnes (load (encode evened) ∷ put 1 a ∷ show 0 1 ∷ show 1 1 ∷ []) ≡ loaded 1 ∷ accepted ∷ refused (Hidden 1) ∷ amount a ∷ []
   pub hidden-figure : engineRefusal (Hidden 1) ≡ engine 15 1
+  -- a slip carries what S has into P, once, and while it is out no book is loaded
+  pub released : answers cardOfOnes (load (encode evened) ∷ put 1 (pos 7) ∷ openSlip 1 1 0 ∷ load (encode evened) ∷ carry release ∷ carry release ∷ show 0 0 ∷ tally ∷ []) ≡ loaded 1 ∷ accepted ∷ slip release ∷ refused SlipOut ∷ accepted ∷ refused NotTheSlip ∷ amount (pos 7) ∷ counts 1 1 0 ∷ []

@@ -21,6 +21,10 @@ module _ {T : Type 0} (xs : List T) (n : ℕ) where
       let back : n - 1 + 1 ≡ n = omega arith in
       ap (λ k. reverse (take k xs)) (sym back) ∙ ap reverse (take-more xs (n - 1) d (omega arith)) ∙ reverse-append (take (n - 1) xs) (getD xs (n - 1) d ∷ [])
 
+pub fewer : {T : Type 0} (xs : List T) (n : ℕ) → 0 < n → n ≤ length xs → rest (reverse (take n xs)) ≡ reverse (take (n - 1) xs)
+fewer [] n p h = absurd (omega arith)
+fewer (x ∷ xs) n p h = ap rest (less (x ∷ xs) n x p h)
+
 pub second-some : {T : Type 0} (xs : List T) (n : ℕ) (d : T) → 1 < n → n ≤ length xs → first (rest (reverse (take n xs))) ≡ Some (getD xs (n - 2) d)
 second-some xs n d p h =
     let two : n - 1 - 1 ≡ n - 2 = omega arith in

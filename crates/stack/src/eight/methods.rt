@@ -1,5 +1,5 @@
 // Making a stack, pushing, popping and looking at the top.
-ghost use Rattle.stack.specs.Stacks.{held, first, rest, pushed};
+ghost use Rattle.stack.specs.Stacks.{held, first, rest, pushed, Laid};
 ghost use Rattle.std.specs.declared.option.Option.the-variants.{Some, None};
 ghost use lib.Dec.{ltb};
 ghost use lib.ListN.{length};
@@ -18,11 +18,18 @@ impl<T: Copy> Stack<T> {
         }
     }
 
+    // Changes nothing: a call brings into its caller's proof where the items stand.
+    fn laid(&self)
+        ensures { λ _. ⌜ Laid (now (self .entry)) ⌝ }
+    {}
+
     // How many items there are.
     pub fn height(&self) -> usize
         ensures { λ r. ⌜ r ≡ length (held (now (self .entry))) ⌝ }
     {
-        self.count
+        let count = self.count;
+        self.laid();
+        count
     }
 
     // One item more, and true; a full stack stays as it is and answers false.
@@ -30,6 +37,7 @@ impl<T: Copy> Stack<T> {
         ensures room { λ r. ⌜ r ≡ ltb (length (held (now (self .entry)))) 8 ⌝ }
         ensures after { λ _. ⌜ held (now (self .exit)) ≡ pushed item (held (now (self .entry))) ⌝ }
     {
+        self.laid();
         if self.count < 8 {
             self.items[self.count] = item;
             self.count += 1;
@@ -44,6 +52,7 @@ impl<T: Copy> Stack<T> {
         ensures value { λ r. ⌜ r ≡ first (held (now (self .entry))) ⌝ }
         ensures after { λ _. ⌜ held (now (self .exit)) ≡ rest (held (now (self .entry))) ⌝ }
     {
+        self.laid();
         if self.count == 0 {
             return None;
         }
@@ -55,6 +64,7 @@ impl<T: Copy> Stack<T> {
     pub fn top(&self) -> Option<T>
         ensures { λ r. ⌜ r ≡ first (held (now (self .entry))) ⌝ }
     {
+        self.laid();
         if self.count == 0 {
             return None;
         }
@@ -65,6 +75,7 @@ impl<T: Copy> Stack<T> {
     pub fn second(&self) -> Option<T>
         ensures { λ r. ⌜ r ≡ first (rest (held (now (self .entry)))) ⌝ }
     {
+        self.laid();
         if self.count < 2 {
             return None;
         }

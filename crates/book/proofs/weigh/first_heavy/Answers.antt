@@ -1,4 +1,5 @@
 use borrow.Author.Needs.{needs}
+use lib.Dec.{ltb}
 use lib.ListN.{drop, getD}
 use mathlib.Core.Bool.{true, false}
 use mathlib.Core.Path.{_≡_, sym, ap, _∙_}
@@ -6,20 +7,20 @@ use native.Mathlib.Omega.{arith}
 use Prim.Native.Nat.{_+_, _<_}
 use Rattle.book.proofs.Heaviest.{within, too-heavy, light-enough}
 use Rattle.book.proofs.weigh.first_heavy.Needs as need
-use Rattle.book.proofs.weigh.first_heavy.Needs.{then-is-stop·else-event-ge-TOO-MUCH, else-is-stop}
+use Rattle.book.proofs.weigh.first_heavy.Needs.{then-is-stop·else-heavy, else-is-stop}
 use Rattle.book.specs.declared.instruction.Instruction.the-variants.{Stop}
 use Rattle.book.specs.Reads.{isStop}
 use Rattle.book.specs.Weighs.{capped, factor, heaviest}
 use Rattle.stack.specs.Stacks.{held}
 use Rattle.std.proofs.shelf.Lists.{at-drop-more, at-drop-all}
 
-pub returns-then-event-ge-TOO-MUCH : need.returns-then-event-ge-TOO-MUCH
-returns-then-event-ge-TOO-MUCH c =
+pub returns-then-heavy : need.returns-then-heavy
+returns-then-heavy c =
     let l = c .loop-place in
     let code = c .args .code .now in
     let ks = held (l .event .factors) in
     let on = at-drop-more (heaviest (l .place) (l .event .start) (l .event .total) ks) code (l .place) Stop (c .loop-place-test .taken) in
-    let over : 100000 < capped (l .event .total + factor ks) = omega (arith, c .add .ensures .total) in
+    let over : ltb 100000 (capped (l .event .total + factor ks)) ≡ true = sym (ap (ltb 100000) (c .add .ensures .total)) ∙ sym (c .if-heavy .ensures tt) in
     let found = too-heavy (l .place) (l .event .start) (l .event .total) ks (getD code (l .place) Stop) (drop (l .place + 1) code) (sym (c .if-is-stop .ensures tt)) over in
     let start = c .add .ensures .start in
     let inv = l .inv in
@@ -39,8 +40,8 @@ loop-place-again c =
     let start = added .start in
     let inv = l .inv in
     elim (c .if-is-stop .came) [
-      | then-is-stop·else-event-ge-TOO-MUCH w ↦
-          let step = light-enough (l .place) (l .event .start) (l .event .total) ks i is (sym (w .if-is-stop .ensures tt)) (omega (arith, total, w .if-event-ge-TOO-MUCH .left)) in
+      | then-is-stop·else-heavy w ↦
+          let step = light-enough (l .place) (l .event .start) (l .event .total) ks i is (sym (w .if-is-stop .ensures tt)) (sym (ap (ltb 100000) total) ∙ sym (w .if-heavy .ensures tt)) in
           let is-new = w .event-is in
           let e1 = w .new-event-then-is-stop .ensures .start in
           let e2 = w .new-event-then-is-stop .ensures .total in

@@ -17,7 +17,7 @@ returns-then-not-known g c =
     let v = c .loop-figure .figure in
     let on = at-drop-more (unknown s (1 + v)) ls v 0 (c .loop-figure-test .taken) in
     let no : s .known (getD ls v 0) ≡ false = sym (c .if-not-known .ensures tt) in
-    sym (sym (c .loop-figure .inv) ∙ on ∙ cond-false (s .known (getD ls v 0)) (unknown s (1 + v + 1) (drop (v + 1) ls)) (Some (Level (1 + v))) no)
+    ap (λ n. Some (Level n)) (c .level-place .ensures) ∙ sym (sym (c .loop-figure .inv) ∙ on ∙ cond-false (s .known (getD ls v 0)) (unknown s (1 + v + 1) (drop (v + 1) ls)) (Some (Level (1 + v))) no)
 
 pub loop-figure-again : need.loop-figure-again
 loop-figure-again g c =
