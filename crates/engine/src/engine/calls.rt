@@ -65,7 +65,8 @@ impl<S: Scale, M: Meter> Engine<S, M> {
         ensures after { λ _. ⌜ engineOf (now (self .exit)) ≡ next (S·Scale .meaning (now (self .entry) .scale)) (M·Meter .meaning (now (self .entry) .meter)) (engineOf (now (self .entry))) (loadCall (now (bytes .entry))) ⌝ }
         ensures kept { λ _. ⌜ now (self .exit) .scale ≡ now (self .entry) .scale ⌝ ∗ ⌜ now (self .exit) .meter ≡ now (self .entry) .meter ⌝ }
     {
-        if self.out.is_some() {
+        let slip_out = self.out.is_some();
+        if slip_out {
             return Err(EngineFault::SlipOut);
         }
         let book = check(&self.scale, &self.meter, bytes)?;
