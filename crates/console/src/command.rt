@@ -75,19 +75,27 @@ fn read_call(heap: Global, words: &[&str]) -> Result<Call, LineFault> {
             figure: number(*figure)?,
             amount: number(*amount)?,
         }),
-        ["run", event] => Ok(Call::Run { event: number(*event)? }),
+        ["run", event] => Ok(Call::Run {
+            event: number(*event)?,
+        }),
         ["show", level, figure] => Ok(Call::Show {
             level: number(*level)?,
             figure: number(*figure)?,
         }),
-        ["clock", level] => Ok(Call::Clock { level: number(*level)? }),
+        ["clock", level] => Ok(Call::Clock {
+            level: number(*level)?,
+        }),
         ["open", holder, from, to] => Ok(Call::Open {
             holder: number(*holder)?,
             from: number(*from)?,
             to: number(*to)?,
         }),
-        ["carry", holder, from, to, count] => Ok(Call::Carry(read_numbers(*holder, *from, *to, *count)?)),
-        ["withdraw", holder, from, to, count] => Ok(Call::Withdraw(read_numbers(*holder, *from, *to, *count)?)),
+        ["carry", holder, from, to, count] => Ok(Call::Carry(
+            read_numbers(*holder, *from, *to, *count)?,
+        )),
+        ["withdraw", holder, from, to, count] => Ok(Call::Withdraw(
+            read_numbers(*holder, *from, *to, *count)?,
+        )),
         ["tally"] => Ok(Call::Tally),
         _ => Err(LineFault::Malformed),
     }

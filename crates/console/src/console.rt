@@ -88,7 +88,11 @@ impl Console {
 
     // Ends the script.
     pub(crate) fn close(self) {
-        let Console { scale: _, meter: _, desk } = self;
+        let Console {
+            scale: _,
+            meter: _,
+            desk,
+        } = self;
         let _ = desk.close();
     }
 }

@@ -2,10 +2,10 @@
 ghost use Rattle.console.specs.Lines.{lineOf};
 ghost use Rattle.std.specs.declared.option.Option.the-variants.{Some};
 use crate::reply::Reply;
-use refusal::Layer;
-use refusal::Refusal;
 use engine::slip::Numbers;
 use engine::slip::Tally;
+use refusal::Layer;
+use refusal::Refusal;
 use std::fmt;
 ghost use Rattle.line.specs.Lines.{layerName};
 ghost use mathlib.Core.Path.{_≡_};
@@ -32,9 +32,28 @@ pub impl fmt::Display for Reply as ReplyDisplay {
             Reply::Loaded(events) => write!(f, "accepted {events}"),
             Reply::Amount(amount) => write!(f, "amount {amount}"),
             Reply::Clock(time) => write!(f, "clock {time}"),
-            Reply::Opened(Numbers { holder, from, to, number }) => write!(f, "slip {holder} {from} {to} {number}"),
-            Reply::Counts(Tally { openings, carries, withdrawals }) => write!(f, "tally {openings} {carries} {withdrawals}"),
-            Reply::Refused(Refusal { number, layer, place }) => {
+            Reply::Opened(
+                Numbers {
+                    holder,
+                    from,
+                    to,
+                    number,
+                },
+            ) => write!(f, "slip {holder} {from} {to} {number}"),
+            Reply::Counts(
+                Tally {
+                    openings,
+                    carries,
+                    withdrawals,
+                },
+            ) => write!(f, "tally {openings} {carries} {withdrawals}"),
+            Reply::Refused(
+                Refusal {
+                    number,
+                    layer,
+                    place,
+                },
+            ) => {
                 let layer = layer_name(layer);
                 write!(f, "refused {number} {layer} {place}")
             }
