@@ -32,29 +32,26 @@ pub impl fmt::Display for Reply as ReplyDisplay {
             Reply::Loaded(events) => write!(f, "accepted {events}"),
             Reply::Amount(amount) => write!(f, "amount {amount}"),
             Reply::Clock(time) => write!(f, "clock {time}"),
-            Reply::Opened(
-                Numbers {
+            Reply::Opened(slip) => {
+                let Numbers {
                     holder,
                     from,
                     to,
                     number,
-                },
-            ) => write!(f, "slip {holder} {from} {to} {number}"),
-            Reply::Counts(
-                Tally {
+                } = slip;
+                write!(f, "slip {holder} {from} {to} {number}")
+            }
+            Reply::Counts(tally) => {
+                let Tally {
                     openings,
                     carries,
                     withdrawals,
-                },
-            ) => write!(f, "tally {openings} {carries} {withdrawals}"),
-            Reply::Refused(
-                Refusal {
-                    number,
-                    layer,
-                    place,
-                },
-            ) => {
-                let layer = layer_name(layer);
+                } = tally;
+                write!(f, "tally {openings} {carries} {withdrawals}")
+            }
+            Reply::Refused(refusal) => {
+                let Refusal { number, place, .. } = refusal;
+                let layer = layer_name(refusal.layer);
                 write!(f, "refused {number} {layer} {place}")
             }
         }

@@ -8,7 +8,7 @@ ghost use Rattle.engine.specs.Calls.{answer, next};
 ghost use Rattle.engine.specs.Models.{askSlip, carry as carryCall, fresh, load as loadCall, openSlip, put as putCall, run as runCall, withdraw as withdrawCall};
 ghost use Rattle.engine.specs.Seen.{engineOf, paperOf};
 ghost use Rattle.engine.specs.declared.fault.EngineFault.the-variants.{NotTheSlip};
-ghost use Rattle.std.specs.declared.option.Option.the-variants.{Some};
+ghost use Rattle.std.specs.declared.option.Option.the-variants.{None, Some};
 ghost use mathlib.Core.Path.{_≡_};
 use crate::call::Call;
 use crate::chosen::ChosenMeter;
@@ -56,6 +56,17 @@ fn discard(engine: &Engine<ChosenScale, ChosenMeter>, slip: Slip)
     requires { ⌜ askSlip (engineOf (now engine) .shared .out) (paperOf (slip .numbers)) ≡ Some NotTheSlip ⌝ }
 {
     match engine.void(slip) {
+        Ok(()) => {}
+        Err(_) => unreachable(),
+    }
+}
+
+// Withdraws the slip that is out.
+fn withdraw_last(engine: &mut Engine<ChosenScale, ChosenMeter>, slip: Slip)
+    requires { ⌜ askSlip (engineOf (now engine) .shared .out) (paperOf (slip .numbers)) ≡ None ⌝ }
+    ensures { λ _. ⌜ engineOf (now (engine .exit)) ≡ next (scaleOf (now (engine .entry) .scale)) (meterOf (now (engine .entry) .meter)) (engineOf (now (engine .entry))) (withdrawCall (paperOf (slip .numbers))) ⌝ }
+{
+    match engine.withdraw(slip) {
         Ok(()) => {}
         Err(_) => unreachable(),
     }
@@ -175,10 +186,7 @@ impl Desk {
     {
         let Desk { mut engine, held } = self;
         if let Some(slip) = held {
-            match engine.withdraw(slip) {
-                Ok(()) => {}
-                Err(_) => unreachable(),
-            }
+            withdraw_last(&mut engine, slip);
         }
         engine
     }
