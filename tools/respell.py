@@ -3,8 +3,8 @@
 
 usage: python3 tools/respell.py [--list]     at the top of the repository, once, after the port's own script
 
-A name counts as the repository's own if a file of specs/ or proofs/ defines it. Of those, names such as fooBar and
-foo-bar are written foo_bar. A dash stays behind the name of a fact, and behind `length`, where it joins two names.
+A name counts as the repository's own if a file of specs/ or proofs/ defines it, and no file takes it from the library.
+Names of goals belong to the toolchain. Of its own names, those such as fooBar and foo-bar are written foo_bar. A dash stays behind the name of a fact, and behind `length`, where it joins two names.
 Types keep their camel case, and functions of src/ keep their names. --list prints old and new names, and changes nothing.
 The crate `check` becomes `flowcheck`: the toolchain has a library of the old name.
 """
@@ -44,16 +44,23 @@ def snake(name):
 
 
 def defined():
-    names = set()
+    names, others = set(), set()
     for path in texts():
-        if "/proofs/" in path and path.count("/") > 3 and not path.rsplit("/", 1)[1][:1].isupper():
-            continue
         with open(path, encoding="utf-8") as f:
-            for line in f:
-                m = DEFINED.match(line)
-                if m and m.group(1) not in KEYWORDS and not m.group(1).startswith("-"):
-                    names.add(m.group(1))
-    return names
+            text = f.read()
+        for line in text.splitlines():
+            m = DEFINED.match(line)
+            if m and m.group(1) not in KEYWORDS and not m.group(1).startswith("-"):
+                names.add(m.group(1))
+            if m and re.search(r":\s*(goal|given|needs?|choices?)\.", line):
+                others.add(m.group(1))
+        for m in re.finditer(r"use (?:Rattle\.std\.|borrow\.|denote\.|mathlib\.|native\.|lib\.|Prim\.)[^{}]*\{([^}]*)\}", text):
+            for item in m.group(1).split(","):
+                others.update(w.strip() for w in item.split(" as "))
+        for m in re.finditer(r"use \S+\.(?:Goals|Given|Needs|Choices)\.\{([^}]*)\}", text):
+            for item in m.group(1).split(","):
+                others.update(w.strip() for w in item.split(" as "))
+    return names - others
 
 
 def table():

@@ -9,7 +9,7 @@ use Rattle.book.specs.declared.instruction.Instruction.TheVariants.{Stop}
 use Rattle.book.specs.Reads.{Raw, finished, heavy, is_stop, light, scan, stops_last}
 use Rattle.book.specs.Trees.{events}
 use Rattle.book.specs.Weighs.{closing_fault, heaviest, weight_fault}
-use Rattle.std.proofs.lemmas.Bool.{cond_true, cond_false}
+use Rattle.std.proofs.lemmas.Bool.{cond-true, cond-false}
 
 -- a list that ends with a stop, by its last place
 pub stops_at : (is : List Instruction) → 0 < length is → stops_last is ≡ is_stop (get_or is (length is - 1) Stop)
@@ -40,10 +40,10 @@ finished_closing nv rs is e = ap finished e ∙ go (stops_last is) refl
     go true s =
         let w = scanned_events nv rs is e s in
         let same : heavy 0 (events is) ≡ heaviest 0 0 0 [] is = sym (heaviest_heavy nv (events is) w.formed 0) ∙ ap (heaviest 0 0 0 []) w.code_is in
-        cond_true (stops_last is) (light (heavy 0 (events is)) is) (Err (Nesting (length is))) s
+        cond-true (stops_last is) (light (heavy 0 (events is)) is) (Err (Nesting (length is))) s
         ∙ ap (λ o. light o is) same
         ∙ lights (heaviest 0 0 0 [] is)
-        ∙ ap (closing is) (sym (cond_true (stops_last is) (weight_fault (heaviest 0 0 0 [] is)) (Some (Nesting (length is))) s))
+        ∙ ap (closing is) (sym (cond-true (stops_last is) (weight_fault (heaviest 0 0 0 [] is)) (Some (Nesting (length is))) s))
     go false s =
-        cond_false (stops_last is) (light (heavy 0 (events is)) is) (Err (Nesting (length is))) s
-        ∙ ap (closing is) (sym (cond_false (stops_last is) (weight_fault (heaviest 0 0 0 [] is)) (Some (Nesting (length is))) s))
+        cond-false (stops_last is) (light (heavy 0 (events is)) is) (Err (Nesting (length is))) s
+        ∙ ap (closing is) (sym (cond-false (stops_last is) (weight_fault (heaviest 0 0 0 [] is)) (Some (Nesting (length is))) s))

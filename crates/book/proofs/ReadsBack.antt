@@ -11,7 +11,7 @@ use Rattle.book.specs.Reads.{BookModel, word, long, words, longs, raw, raws, sca
 use Rattle.book.specs.Trees.{event_weight}
 use Rattle.std.proofs.ByRecursion.{All-weaker, All-map}
 use Rattle.std.proofs.lemmas.List.{append_assoc, append-nil, length-append, length-map}
-use Rattle.std.proofs.lemmas.Bool.{cond_true, cond_false, le-ltb, eq-eqb}
+use Rattle.std.proofs.lemmas.Bool.{cond-true, cond-false, le-ltb, eq-eqb}
 use Rattle.std.specs.List.{flat_map, AllByRecursion as All}
 
 -- a code always fits its field
@@ -142,9 +142,9 @@ module _ (b : BookModel) (w : WellFormed b) where
       let nv = length b.levels in
       let nc = length b.code in
       let size = length-encode in
-      cond_false (ltb (length bs) 6) (Err Length) (read_sized (word bs 0) (word bs 2) bs) (le-ltb (length bs) 6 (omega arith))
+      cond-false (ltb (length bs) 6) (Err Length) (read_sized (word bs 0) (word bs 2) bs) (le-ltb (length bs) 6 (omega arith))
       ∙ ap₂ (λ x y. read_sized x y bs) (halves nv) (halves nc)
-      ∙ cond_false (ltb 32 nv) (Err TooManyFigures) (cond (ltb 256 nc) (Err TooManyInstructions) (cond (eqb (length bs) (6 + 6 * nv + 5 * nc)) (read_body nv nc bs) (Err Length))) (le-ltb 32 nv w.figures)
-      ∙ cond_false (ltb 256 nc) (Err TooManyInstructions) (cond (eqb (length bs) (6 + 6 * nv + 5 * nc)) (read_body nv nc bs) (Err Length)) (le-ltb 256 nc w.instructions)
-      ∙ cond_true (eqb (length bs) (6 + 6 * nv + 5 * nc)) (read_body nv nc bs) (Err Length) (eq-eqb (length bs) (6 + 6 * nv + 5 * nc) size)
+      ∙ cond-false (ltb 32 nv) (Err TooManyFigures) (cond (ltb 256 nc) (Err TooManyInstructions) (cond (eqb (length bs) (6 + 6 * nv + 5 * nc)) (read_body nv nc bs) (Err Length))) (le-ltb 32 nv w.figures)
+      ∙ cond-false (ltb 256 nc) (Err TooManyInstructions) (cond (eqb (length bs) (6 + 6 * nv + 5 * nc)) (read_body nv nc bs) (Err Length)) (le-ltb 256 nc w.instructions)
+      ∙ cond-true (eqb (length bs) (6 + 6 * nv + 5 * nc)) (read_body nv nc bs) (Err Length) (eq-eqb (length bs) (6 + 6 * nv + 5 * nc) size)
       ∙ λ i. bound (halves b.clock i) (levels_back i) (starts_back i) (code_back i)

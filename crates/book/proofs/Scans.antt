@@ -9,29 +9,29 @@ use Rattle.book.specs.Forms.{Formed, ends, number, figure, clock, operate, store
 use Rattle.book.specs.Reads.{raw, scan, stops_last}
 use Rattle.book.specs.Trees.{Code, flat, whole}
 use Rattle.std.proofs.lemmas.List.{append_assoc}
-use Rattle.std.proofs.lemmas.Bool.{lt_ltb}
+use Rattle.std.proofs.lemmas.Bool.{lt-ltb}
 use Rattle.std.specs.List.{AllByRecursion as All}
 
 -- something is open inside a block
 inside : (b : Block) (bs : List Block) → ltb 0 (length (b ∷ bs)) ≡ true
-inside b bs = lt_ltb 0 (length (b ∷ bs)) (omega arith)
+inside b bs = lt-ltb 0 (length (b ∷ bs)) (omega arith)
 
 -- By induction on how the stretch is formed; behind a block's end the outer blocks are open again.
 pub flat_fits : {nv d h : ℕ} {c : Code} → Formed nv d h c → (bs : List Block) (is : List Instruction) → length bs + d ≡ 8 → Fitting nv 0 bs is → Fitting nv h bs (flat c ++ is)
 flat_fits ends bs is r f = f
-flat_fits {nv} (number {h} {c} l p) bs is r f = (tt, lt_ltb h 8 l, refl, subst (λ x. Fitting nv x bs (flat c ++ is)) (sym (add-one h)) (flat_fits p bs is r f))
-flat_fits {nv} (figure {h} {c} v l p) bs is r f = (v, lt_ltb h 8 l, refl, subst (λ x. Fitting nv x bs (flat c ++ is)) (sym (add-one h)) (flat_fits p bs is r f))
-flat_fits {nv} (clock {h} {c} l p) bs is r f = (tt, lt_ltb h 8 l, refl, subst (λ x. Fitting nv x bs (flat c ++ is)) (sym (add-one h)) (flat_fits p bs is r f))
+flat_fits {nv} (number {h} {c} l p) bs is r f = (tt, lt-ltb h 8 l, refl, subst (λ x. Fitting nv x bs (flat c ++ is)) (sym (add-one h)) (flat_fits p bs is r f))
+flat_fits {nv} (figure {h} {c} v l p) bs is r f = (v, lt-ltb h 8 l, refl, subst (λ x. Fitting nv x bs (flat c ++ is)) (sym (add-one h)) (flat_fits p bs is r f))
+flat_fits {nv} (clock {h} {c} l p) bs is r f = (tt, lt-ltb h 8 l, refl, subst (λ x. Fitting nv x bs (flat c ++ is)) (sym (add-one h)) (flat_fits p bs is r f))
 flat_fits {nv} (operate {h} {c} p) bs is r f =
     let one_less : suc h ≡ suc (suc h) - 1 = omega arith in
-    (tt, lt_ltb 1 (suc (suc h)) (omega arith), refl, subst (λ x. Fitting nv x bs (flat c ++ is)) one_less (flat_fits p bs is r f))
+    (tt, lt-ltb 1 (suc (suc h)) (omega arith), refl, subst (λ x. Fitting nv x bs (flat c ++ is)) one_less (flat_fits p bs is r f))
 flat_fits (store v p) bs is r f = (v, refl, refl, flat_fits p bs is r f)
 flat_fits (wait n p) bs is r f = (n, refl, refl, flat_fits p bs is r f)
 flat_fits {nv} (one_part {f = a} {c} p q) bs is r f =
     let after : Fitting nv 0 (FirstPart ∷ bs) (End ∷ (flat c ++ is)) = (tt, refl, inside FirstPart bs, flat_fits q bs is r f) in (
       tt,
       refl,
-      lt_ltb (length bs) 8 (omega arith),
+      lt-ltb (length bs) 8 (omega arith),
       subst (Fitting nv 0 (FirstPart ∷ bs)) (sym (append_assoc (flat a) (End ∷ flat c) is)) (flat_fits p (FirstPart ∷ bs) (End ∷ (flat c ++ is)) (omega arith) after),
     )
 flat_fits {nv} (two_parts {f = a} {s} {c} p q t) bs is r f =
@@ -40,7 +40,7 @@ flat_fits {nv} (two_parts {f = a} {s} {c} p q t) bs is r f =
     let else-on : Fitting nv 0 (FirstPart ∷ bs) (Else ∷ (flat s ++ (End ∷ (flat c ++ is)))) = (tt, refl, refl, second) in (
       tt,
       refl,
-      lt_ltb (length bs) 8 (omega arith),
+      lt-ltb (length bs) 8 (omega arith),
       subst (Fitting nv 0 (FirstPart ∷ bs))
           (ap (λ l. flat a ++ (Else ∷ l)) (sym (append_assoc (flat s) (End ∷ flat c) is)) ∙ sym (append_assoc (flat a) (Else ∷ (flat s ++ (End ∷ flat c))) is))
           (flat_fits p (FirstPart ∷ bs) (Else ∷ (flat s ++ (End ∷ (flat c ++ is)))) (omega arith) else-on),
@@ -49,7 +49,7 @@ flat_fits {nv} (turns {f = a} {c} n p q) bs is r f =
     let after : Fitting nv 0 (Turns ∷ bs) (End ∷ (flat c ++ is)) = (tt, refl, inside Turns bs, flat_fits q bs is r f) in (
       n,
       refl,
-      lt_ltb (length bs) 8 (omega arith),
+      lt-ltb (length bs) 8 (omega arith),
       subst (Fitting nv 0 (Turns ∷ bs)) (sym (append_assoc (flat a) (End ∷ flat c) is)) (flat_fits p (Turns ∷ bs) (End ∷ (flat c ++ is)) (omega arith) after),
     )
 

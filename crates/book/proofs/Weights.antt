@@ -8,7 +8,7 @@ use Rattle.book.specs.Trees.{Code, done, plain, branch, loop, flat, whole, weigh
 use Rattle.book.specs.Weighs.{capped, factor, factors_after, heaviest}
 use Rattle.stack.specs.Stacks.{pushed}
 use Rattle.std.proofs.lemmas.List.{append_assoc, length-append}
-use Rattle.std.proofs.lemmas.Bool.{cond_true, lt_ltb, cases_lt}
+use Rattle.std.proofs.lemmas.Bool.{cond-true, lt-ltb, cases_lt}
 use Rattle.std.proofs.lemmas.Bool.Decides.{nat_tests}
 use Rattle.std.specs.List.{AllByRecursion as All}
 
@@ -37,7 +37,7 @@ inside K n = ⊎_elim (λ h. small h) (λ h. large h) (cases_lt K 100001)
     large h = omega (arith, over (capped K) (max n 1) (omega arith) (omega arith), over K (max 1 n) h (omega arith))
 
 push : (k : ℕ) (ks : List ℕ) (d : ℕ) → length ks + suc d ≡ 8 → pushed k ks ≡ k ∷ ks
-push k ks d e = cond_true (ltb (length ks) 8) (k ∷ ks) ks (lt_ltb (length ks) 8 (omega arith))
+push k ks d e = cond-true (ltb (length ks) 8) (k ∷ ks) ks (lt-ltb (length ks) 8 (omega arith))
 
 -- a plain instruction in front of a stretch of L instructions that weighs w
 plain_more : (s p T K L w : ℕ) (ks : List ℕ) (fs is : List Instruction) → factor ks ≡ capped K → heaviest (p + 1) s (capped (T + K)) ks (fs ++ is) ≡ heaviest (p + 1 + L) s (capped (T + K + w)) ks is → heaviest (p + 1) s (capped (capped T + factor ks)) ks (fs ++ is) ≡ heaviest (p + suc L) s (capped (T + (K + w))) ks is

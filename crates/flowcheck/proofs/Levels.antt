@@ -6,7 +6,7 @@ use Rattle.flowcheck.specs.Checks.{unknown}
 use Rattle.refusal.specs.declared.check.CheckFault.{CheckFault}
 use Rattle.refusal.specs.declared.check.CheckFault.TheVariants.{Level}
 use Rattle.scale.specs.Scales.{ScaleModel}
-use Rattle.std.proofs.lemmas.Bool.{true≢false, cond_true}
+use Rattle.std.proofs.lemmas.Bool.{true≢false, cond-true}
 use Rattle.std.specs.List.{AllByRecursion as All}
 
 -- where none is unknown all are known
@@ -21,7 +21,7 @@ unknown_none s p (l ∷ ls) e =
 -- and the other way round
 pub none_unknown : (s : ScaleModel) (p : ℕ) (ls : List ℕ) → All (λ l. s.known l ≡ true) ls → unknown s p ls ≡ None
 none_unknown s p [] a = refl
-none_unknown s p (l ∷ ls) a = cond_true (s.known l) (unknown s (p + 1) ls) (Some (Level p)) a.0 ∙ none_unknown s (p + 1) ls a.1
+none_unknown s p (l ∷ ls) a = cond-true (s.known l) (unknown s (p + 1) ls) (Some (Level p)) a.0 ∙ none_unknown s (p + 1) ls a.1
 
 -- UnknownFrom s ls n q: n is rule 7, and the level q places further on is unknown
 abbrev pub UnknownFrom : ScaleModel → List ℕ → ℕ → ℕ → Type 0

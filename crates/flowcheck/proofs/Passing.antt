@@ -15,7 +15,7 @@ use Rattle.flowcheck.specs.Tolls.{base, price, toll}
 use Rattle.meter.specs.Meters.{MeterModel, Lawful}
 use Rattle.stack.specs.Stacks.{pushed}
 use Rattle.std.proofs.lemmas.List.{append_assoc}
-use Rattle.std.proofs.lemmas.Bool.{cases_lt, cond_true, lt_ltb}
+use Rattle.std.proofs.lemmas.Bool.{cases_lt, cond-true, lt-ltb}
 use Rattle.std.specs.List.{AllByRecursion as All}
 
 -- a factor that is cut to 64 bits gives the same product, cut to 64 bits
@@ -46,7 +46,7 @@ turned t b n w T =
 
 -- a block is opened where fewer than eight are open
 push : (b : ℕ) (bs : List ℕ) (d : ℕ) → length bs + suc d ≤ 8 → pushed b bs ≡ b ∷ bs
-push b bs d e = cond_true (ltb (length bs) 8) (b ∷ bs) bs (lt_ltb (length bs) 8 (omega arith))
+push b bs d e = cond-true (ltb (length bs) 8) (b ∷ bs) bs (lt-ltb (length bs) 8 (omega arith))
 
 module _ (m : MeterModel) where
   -- where an if or an else stands, the pass behind it has come to the toll of the part that starts there

@@ -13,11 +13,11 @@ use Rattle.flowcheck.specs.Tolls.{second_ahead}
 use Rattle.flowcheck.specs.Walks.{Setting, context, figure_level, stake}
 use Rattle.stack.specs.Stacks.{pushed}
 use Rattle.std.proofs.lemmas.List.{append_assoc}
-use Rattle.std.proofs.lemmas.Bool.{cond_true, lt_ltb, not-false}
+use Rattle.std.proofs.lemmas.Bool.{cond-true, lt-ltb, not-false}
 
 -- one more item where there is room
 pub push : (x : ℕ) (xs : List ℕ) → length xs < 8 → pushed x xs ≡ x ∷ xs
-push x xs h = cond_true (ltb (length xs) 8) (x ∷ xs) xs (lt_ltb (length xs) 8 h)
+push x xs h = cond-true (ltb (length xs) 8) (x ∷ xs) xs (lt-ltb (length xs) 8 h)
 
 -- what stands behind a block with one part, and with two
 pub behind_one : (fs cs is : List Instruction) → (fs ++ (End ∷ cs)) ++ is ≡ fs ++ (End ∷ (cs ++ is))

@@ -9,7 +9,7 @@ use Rattle.flowcheck.specs.Verdicts.{verdict_on}
 use Rattle.meter.specs.Cards.{card}
 use Rattle.scale.specs.Ladders.{ladder}
 use Rattle.std.proofs.lemmas.List.{get_or_append_left, length-append}
-use Rattle.std.proofs.lemmas.Bool.{cond_false, le-ltb}
+use Rattle.std.proofs.lemmas.Bool.{cond-false, le-ltb}
 use Rattle.std.proofs.lemmas.Bool.Decides.{nat_tests}
 
 -- sizes within their limits call for no more than 1478 bytes
@@ -22,7 +22,7 @@ too_long nv nc = cond (ltb 32 nv) (Err TooManyFigures) (cond (ltb 256 nc) (Err T
 
 reading_long : (bs : List ℕ) → 1478 < length bs → reading bs ≡ too_long (word bs 0) (word bs 2)
 reading_long bs h =
-    cond_false (ltb (length bs) 6) (Err Length) (read_sized (word bs 0) (word bs 2) bs) (le-ltb (length bs) 6 (omega arith))
+    cond-false (ltb (length bs) 6) (Err Length) (read_sized (word bs 0) (word bs 2) bs) (le-ltb (length bs) 6 (omega arith))
     ∙ no_length (word bs 0) (word bs 2) (length bs) (Err TooManyFigures) (Err TooManyInstructions) (read_body (word bs 0) (word bs 2) bs) (Err Length) h
 
 -- the first bytes are the same with more behind them

@@ -3,7 +3,7 @@ use Rattle.std.proofs.Common.{◌≡◌, ℕ, zero, suc, ◌<◌, ltb, List, [],
 use Rattle.machine.proofs.Observing.{Sees, Hidden}
 use Rattle.scale.specs.Scales.{ScaleModel}
 use Rattle.stack.specs.Stacks.{pushed, rest}
-use Rattle.std.proofs.lemmas.Bool.{cond_true, lt_ltb}
+use Rattle.std.proofs.lemmas.Bool.{cond-true, lt-ltb}
 
 -- Agree s L ls xs ys: xs and ys are as long as ls, and have the same amount wherever an observer at L sees the level in ls
 pub data Agree (s : ScaleModel) (L : ℕ) : List ℕ → List ℤ → List ℤ → Type 0 where
@@ -12,7 +12,7 @@ pub data Agree (s : ScaleModel) (L : ℕ) : List ℕ → List ℤ → List ℤ �
 
 -- one more item where there is room
 push : {T : Type 0} (x : T) (xs : List T) → length xs < 8 → pushed x xs ≡ x ∷ xs
-push x xs h = cond_true (ltb (length xs) 8) (x ∷ xs) xs (lt_ltb (length xs) 8 h)
+push x xs h = cond-true (ltb (length xs) 8) (x ∷ xs) xs (lt-ltb (length xs) 8 h)
 
 module _ {s : ScaleModel} {L : ℕ} where
   -- the second list first

@@ -6,7 +6,7 @@ use Rattle.book.specs.Forms.{Formed, ends, number, figure, clock, operate, store
 use Rattle.book.specs.Trees.{Code, flat}
 use Rattle.machine.specs.Jumps.{end_from}
 use Rattle.std.proofs.lemmas.List.{append_assoc, length-append}
-use Rattle.std.proofs.lemmas.Bool.{cond_false, ne_eqb}
+use Rattle.std.proofs.lemmas.Bool.{cond-false, ne_eqb}
 
 -- the same search from places that are the same
 moved : (e p q : ℕ) (is : List Instruction) → p ≡ q → end_from e p is ≡ end_from e q is
@@ -16,7 +16,7 @@ moved e p q is same = ap (λ x. end_from e x is) same
 pass_end : (e p : ℕ) (is : List Instruction) → end_from (e + 1) p (End ∷ is) ≡ end_from e (p + 1) is
 pass_end e p is =
     let outside : e + 1 - 1 ≡ e = omega arith in
-    cond_false (eqb (e + 1) 0) p (end_from (e + 1 - 1) (p + 1) is) (ne_eqb (e + 1) 0 (λ z. omega arith)) ∙ ap (λ x. end_from x (p + 1) is) outside
+    cond-false (eqb (e + 1) 0) p (end_from (e + 1 - 1) (p + 1) is) (ne_eqb (e + 1) 0 (λ z. omega arith)) ∙ ap (λ x. end_from x (p + 1) is) outside
 
 -- By induction on how the stretch is formed: a plain instruction moves on by one place, and a block is open just as long
 -- as its parts last.

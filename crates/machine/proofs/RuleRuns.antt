@@ -10,11 +10,11 @@ use Rattle.machine.specs.Rules.{at, Goes, Turns, ends, number, figure, clock, op
 use Rattle.steps.specs.Runs.{times, exec}
 use Rattle.meter.specs.Meters.{MeterModel}
 use Rattle.stack.specs.Stacks.{pushed}
-use Rattle.std.proofs.lemmas.Bool.{cond_true, cond_false, lt_ltb}
+use Rattle.std.proofs.lemmas.Bool.{cond-true, cond-false, lt-ltb}
 
 -- a stack of fewer than eight takes one amount more
 pub room : (x : ℤ) (st : List ℤ) → length st < 8 → pushed x st ≡ x ∷ st
-room x st l = cond_true (ltb (length st) 8) (x ∷ st) st (lt_ltb (length st) 8 l)
+room x st l = cond-true (ltb (length st) 8) (x ∷ st) st (lt-ltb (length st) 8 l)
 
 -- a machine with nothing on its stack stays as it is when it is emptied
 pub emptied_same : (s : Machine) → s.stack ≡ [] → s ≡ emptied s
@@ -81,10 +81,10 @@ module _ (m : MeterModel) where
     only (wait g) h = only g (omega arith)
     only (first {f = f} {g = g} {c = c} {a = a} {fs = fs} {t = t} {q = q} z p k) h =
         let s : Machine = at [] fs (later t (m.charge 11 a (pos 0))) in
-        onward c (leaves_empty p) (only p (omega arith) ∙ sym (cond_false (is_zero a) (exec m g s) (exec m f s) z)) (only k (few q.stack (leaves_empty p)))
+        onward c (leaves_empty p) (only p (omega arith) ∙ sym (cond-false (is_zero a) (exec m g s) (exec m f s) z)) (only k (few q.stack (leaves_empty p)))
     only (second {f = f} {g = g} {c = c} {a = a} {fs = fs} {t = t} {q = q} z p k) h =
         let s : Machine = at [] fs (later t (m.charge 11 a (pos 0))) in
-        onward c (leaves_empty p) (only p (omega arith) ∙ sym (cond_true (is_zero a) (exec m g s) (exec m f s) z)) (only k (few q.stack (leaves_empty p)))
+        onward c (leaves_empty p) (only p (omega arith) ∙ sym (cond-true (is_zero a) (exec m g s) (exec m f s) z)) (only k (few q.stack (leaves_empty p)))
     only (turns {n = n} {c = c} {q = q} p k) h =
         onward c (turns_empty p) (only_turns p n) (only k (few q.stack (turns_empty p)))
 

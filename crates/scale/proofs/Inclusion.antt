@@ -3,7 +3,7 @@ use Rattle.std.proofs.Common.{◌≡◌, ℕ, zero, suc, ◌+◌, ◌*◌, ◌/�
 use native.Mathlib.Nat.{zero-div}
 use lib.Bits.{bit_or, or_step}
 use Rattle.std.proofs.lemmas.Nat.{or_lt, or_shr, shr-shr, pow_pos}
-use Rattle.std.proofs.lemmas.Bool.{cases_Bool, cond_true, cond_false, and_parts, and_from, and_left, and_right, or_left, or_right, or_cases, ltb-true, lt_ltb, eqb-true, true≢false}
+use Rattle.std.proofs.lemmas.Bool.{cases_Bool, cond-true, cond-false, and_parts, and_from, and_left, and_right, or_left, or_right, or_cases, ltb-true, lt-ltb, eqb-true, true≢false}
 use Rattle.std.proofs.lemmas.Bool.Decides.{Decides-below_and, nat_tests}
 use Rattle.scale.specs.Scales.{ScaleModel, Lawful}
 use Rattle.scale.specs.Sets.{has, within, departments}
@@ -78,14 +78,14 @@ below_from : (d a b : ℕ) → a < 2 ^ d → b < 2 ^ d → ((k : ℕ) → k < d 
     → (departments d).below a b ≡ true
 below_from d a b p q h =
     and_from (ltb a (2 ^ d) && ltb b (2 ^ d)) (within d a b)
-    (and_from (ltb a (2 ^ d)) (ltb b (2 ^ d)) (lt_ltb a (2 ^ d) p) (lt_ltb b (2 ^ d) q))
+    (and_from (ltb a (2 ^ d)) (ltb b (2 ^ d)) (lt-ltb a (2 ^ d) p) (lt-ltb b (2 ^ d) q))
     ((within_decides d a b).1 h)
 
 -- the join of two levels is their union
 join_union : (d a b : ℕ) → a < 2 ^ d → b < 2 ^ d → (departments d).join a b ≡ bit_or a b
 join_union d a b p q =
-    cond_true (ltb a (2 ^ d) && ltb b (2 ^ d)) (bit_or a b) 0
-    (and_from (ltb a (2 ^ d)) (ltb b (2 ^ d)) (lt_ltb a (2 ^ d) p) (lt_ltb b (2 ^ d) q))
+    cond-true (ltb a (2 ^ d) && ltb b (2 ^ d)) (bit_or a b) 0
+    (and_from (ltb a (2 ^ d)) (ltb b (2 ^ d)) (lt-ltb a (2 ^ d) p) (lt-ltb b (2 ^ d) q))
 
 -- a test that follows from another both ways is equal to it
 same_test : (x y : Bool) → (x ≡ true → y ≡ true) → (y ≡ true → x ≡ true) → x ≡ y
@@ -107,10 +107,10 @@ departments_lawful d =
           below_from d a c p.0 q.1 (λ k lt h. q.2 k lt (p.2 k lt h));
       antisymmetric = λ a b e f. let p = below_parts d a b e in let q = below_parts d b a f in
           same_set d a b p.0 q.0 (λ k lt. same_test (has k a) (has k b) (p.2 k lt) (q.2 k lt));
-      floor_known = lt_ltb 0 (2 ^ d) (pow_pos d);
+      floor_known = lt-ltb 0 (2 ^ d) (pow_pos d);
       floor_least = λ a e. below_from d 0 a (pow_pos d) (ltb-true a (2 ^ d) e) (λ k _ h. absurd (none_has k h));
       join_known = λ a b e f. let p = ltb-true a (2 ^ d) e in let q = ltb-true b (2 ^ d) f in
-          rw (join_union d a b p q) (lt_ltb (bit_or a b) (2 ^ d) (or_lt d a b p q));
+          rw (join_union d a b p q) (lt-ltb (bit_or a b) (2 ^ d) (or_lt d a b p q));
       join_first = λ a b e f. let p = ltb-true a (2 ^ d) e in let q = ltb-true b (2 ^ d) f in
           rw (join_union d a b p q) (below_from d a (bit_or a b) p (or_lt d a b p q)
           (λ k _ h. has_or k a b ∙ or_left (has k a) (has k b) h));
@@ -120,8 +120,8 @@ departments_lawful d =
       join_least = λ a b c e f. let p = below_parts d a c e in let q = below_parts d b c f in
           rw (join_union d a b p.0 q.0) (below_from d (bit_or a b) c (or_lt d a b p.0 q.0) p.1
           (λ k lt h. ⊎_elim (p.2 k lt) (q.2 k lt) (or_cases (has k a) (has k b) (sym (has_or k a b) ∙ h))));
-      lower_known = λ a b e. lt_ltb a (2 ^ d) (below_parts d a b e).0;
-      upper_known = λ a b e. lt_ltb b (2 ^ d) (below_parts d a b e).1;
-      join_unknown_first = λ a b e. cond_false (ltb a (2 ^ d) && ltb b (2 ^ d)) (bit_or a b) 0 (and_left (ltb a (2 ^ d)) (ltb b (2 ^ d)) e);
-      join_unknown_second = λ a b e. cond_false (ltb a (2 ^ d) && ltb b (2 ^ d)) (bit_or a b) 0 (and_right (ltb a (2 ^ d)) (ltb b (2 ^ d)) e);
+      lower_known = λ a b e. lt-ltb a (2 ^ d) (below_parts d a b e).0;
+      upper_known = λ a b e. lt-ltb b (2 ^ d) (below_parts d a b e).1;
+      join_unknown_first = λ a b e. cond-false (ltb a (2 ^ d) && ltb b (2 ^ d)) (bit_or a b) 0 (and_left (ltb a (2 ^ d)) (ltb b (2 ^ d)) e);
+      join_unknown_second = λ a b e. cond-false (ltb a (2 ^ d) && ltb b (2 ^ d)) (bit_or a b) 0 (and_right (ltb a (2 ^ d)) (ltb b (2 ^ d)) e);
     }

@@ -4,7 +4,7 @@ use Rattle.script.specs.declared.fault.LineFault.{LineFault}
 use Rattle.script.specs.declared.fault.LineFault.TheVariants.{Malformed, Memory}
 use Rattle.script.specs.Words.{integer, natural, Numbered, numeral, Reads}
 use Rattle.std.proofs.lemmas.Str.Parse.{IsNumeralModel, not_in_digits, numerals_by_value, parse_digits, parse_plain, parse_signed_digits, parse_signed_minus, parse_signed_plain, tells_all_ascii_digits}
-use Rattle.std.proofs.lemmas.Bool.{and_from, and_parts, cases_Bool, cases_eq, cond_false, cond_true, eq-eqb, lt_ltb, ltb-true, ne_eqb}
+use Rattle.std.proofs.lemmas.Bool.{and_from, and_parts, cases_Bool, cases_eq, cond-false, cond-true, eq-eqb, lt-ltb, ltb-true, ne_eqb}
 use Rattle.std.specs.Option.{option_map}
 use Rattle.std.specs.Str.Parse.{ParsesSigned, ParsesUnsigned, digits_value}
 use Rattle.std.specs.Str.{all_ascii_digits}
@@ -16,8 +16,8 @@ own = numerals_by_value (λ ds. all_ascii_digits ds ≡ true) tells_all_ascii_di
 module _ (limit : ℕ) (w : List ℕ) where
   numeral_is : all_ascii_digits w ≡ true → 0 < length w → digits_value 10 w < limit → numeral limit w ≡ Some (digits_value 10 w)
   numeral_is digits some small =
-      cond_true (ltb 0 (length w) && (all_ascii_digits w && ltb (digits_value 10 w) limit)) (Some (digits_value 10 w)) None
-      (and_from _ _ (lt_ltb 0 (length w) some) (and_from _ _ digits (lt_ltb (digits_value 10 w) limit small)))
+      cond-true (ltb 0 (length w) && (all_ascii_digits w && ltb (digits_value 10 w) limit)) (Some (digits_value 10 w)) None
+      (and_from _ _ (lt-ltb 0 (length w) some) (and_from _ _ digits (lt-ltb (digits_value 10 w) limit small)))
 
   numeral_none : (all_ascii_digits w ≡ true → 0 < length w → digits_value 10 w < limit → ⊥) → numeral limit w ≡ None
   numeral_none never =
@@ -26,7 +26,7 @@ module _ (limit : ℕ) (w : List ℕ) where
       let a = and_parts _ _ t in
       let b = and_parts _ _ a.1 in
       never b.0 (ltb-true 0 (length w) a.0) (ltb-true (digits_value 10 w) limit b.1) in
-      cond_false test (Some (digits_value 10 w)) None (elim (cases_Bool test) [ inl t ↦ absurd (failed t) | inr f ↦ f ])
+      cond-false test (Some (digits_value 10 w)) None (elim (cases_Bool test) [ inl t ↦ absurd (failed t) | inr f ↦ f ])
 
 -- digits begin with a digit
 first_digit : (w : List ℕ) (c : ℕ) → all_ascii_digits w ≡ true → 0 < length w → (IsInRange 48 57 c → ⊥) → get_or w 0 0 ≡ c → ⊥
@@ -52,10 +52,10 @@ module _ {E : Type 0} (w : List ℕ) (Blamed Spelled : List ℕ → Result ℤ E
 
   -- the two ways to spell an integer
   below : get_or w 0 0 ≡ 45 → integer w ≡ option_map (λ n. neg_ℤ (pos n)) (numeral (2 ^ 31 + 1) (drop 1 w))
-  below minus = cond_true (eqb (get_or w 0 0) 45) (option_map (λ n. neg_ℤ (pos n)) (numeral (2 ^ 31 + 1) (drop 1 w))) (option_map pos (numeral (2 ^ 31) w)) (eq-eqb (get_or w 0 0) 45 minus)
+  below minus = cond-true (eqb (get_or w 0 0) 45) (option_map (λ n. neg_ℤ (pos n)) (numeral (2 ^ 31 + 1) (drop 1 w))) (option_map pos (numeral (2 ^ 31) w)) (eq-eqb (get_or w 0 0) 45 minus)
 
   above : (get_or w 0 0 ≡ 45 → ⊥) → integer w ≡ option_map pos (numeral (2 ^ 31) w)
-  above other = cond_false (eqb (get_or w 0 0) 45) (option_map (λ n. neg_ℤ (pos n)) (numeral (2 ^ 31 + 1) (drop 1 w))) (option_map pos (numeral (2 ^ 31) w)) (ne_eqb (get_or w 0 0) 45 other)
+  above other = cond-false (eqb (get_or w 0 0) 45) (option_map (λ n. neg_ℤ (pos n)) (numeral (2 ^ 31 + 1) (drop 1 w))) (option_map pos (numeral (2 ^ 31) w)) (ne_eqb (get_or w 0 0) 45 other)
 
   integer_ok : (a : ℤ) → (get_or w 0 0 ≡ 43 → ⊥) → parses_signed w (Ok a) → (get_or w 0 0 ≡ 45) ⊎ (get_or w 0 0 ≡ 45 → ⊥) → integer w ≡ Some a
   integer_ok a plain h (inl minus) =

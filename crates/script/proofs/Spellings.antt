@@ -7,7 +7,7 @@ use Rattle.script.specs.declared.command.MeterChoice.TheVariants.{Card, Digit}
 use Rattle.script.specs.Hex.{bytes}
 use Rattle.script.specs.Words.{integer, natural, texts}
 use Rattle.std.proofs.lemmas.List.{take_all}
-use Rattle.std.proofs.lemmas.Bool.{and_left, and_right, cond_false, ne_eqb}
+use Rattle.std.proofs.lemmas.Bool.{and_left, and_right, cond-false, ne_eqb}
 use Rattle.std.specs.Option.{option_map}
 
 -- a word of a slice, by its place
@@ -62,7 +62,7 @@ texts_first (v ∷ ws) h =
 
 -- a test of a word that is another
 pub unlike : {X : Type 0} (v word : List ℕ) (x y : X) → (v ≡ word → ⊥) → cond (is v word) x y ≡ y
-unlike v word x y other = cond_false (is v word) x y (other_text v word other)
+unlike v word x y other = cond-false (is v word) x y (other_text v word other)
 
 -- a part that is missing
 pub given_none : {X Y : Type 0} (f : Option (X → Y)) → given f None ≡ None
@@ -92,10 +92,10 @@ meter_card ws some v = ap meter_spelled (texts_first ws some) ∙ ap (λ (v : Li
 pub meter_other : (ws : List (Bor (List ℕ))) → 0 < length ws → (at ws 0 ≡ codes "card" → ⊥) → (at ws 0 ≡ codes "digit" → ⊥) ⊎ (1 < length ws) → meter_spelled (texts ws) ≡ None
 meter_other [] some card digit = absurd (omega arith)
 meter_other (v ∷ ws) some card (inl digit) =
-    unlike v.now (codes "card") _ _ card ∙ cond_false (is v.now (codes "digit") && eqb (length (texts ws)) 0) (Some Digit) None (and_left _ _ (other_text v.now (codes "digit") digit))
+    unlike v.now (codes "card") _ _ card ∙ cond-false (is v.now (codes "digit") && eqb (length (texts ws)) 0) (Some Digit) None (and_left _ _ (other_text v.now (codes "digit") digit))
 meter_other (v ∷ []) some card (inr more) = absurd (omega arith)
 meter_other (v ∷ w ∷ ws) some card (inr more) =
-    unlike v.now (codes "card") _ _ card ∙ cond_false (is v.now (codes "digit") && eqb (length (texts (w ∷ ws))) 0) (Some Digit) None (and_right _ _ (ne_eqb (length (texts (w ∷ ws))) 0 (λ e. omega arith)))
+    unlike v.now (codes "card") _ _ card ∙ cond-false (is v.now (codes "digit") && eqb (length (texts (w ∷ ws))) 0) (Some Digit) None (and_right _ _ (ne_eqb (length (texts (w ∷ ws))) 0 (λ e. omega arith)))
 
 -- a scale, a meter and a call, by the first word
 pub ask_scale : (ws : List (Bor (List ℕ))) → 0 < length ws → at ws 0 ≡ codes "scale" → spelled (texts ws) ≡ option_map scale (scale_spelled (texts (behind_first ws)))

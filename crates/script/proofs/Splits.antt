@@ -3,13 +3,13 @@ use Rattle.std.proofs.Common.{◌≡◌, ℕ, zero, suc, ◌<◌, ◌≤◌, tru
 use Rattle.script.proofs.Spellings.{at}
 use Rattle.script.specs.Asked.{ascii}
 use Rattle.script.specs.Words.{before, texts, words_of}
-use Rattle.std.proofs.lemmas.Bool.{and_from, and_left, and_right, cond_false, le-ltb, lt_ltb, ne_eqb}
+use Rattle.std.proofs.lemmas.Bool.{and_from, and_left, and_right, cond-false, le-ltb, lt-ltb, ne_eqb}
 use Rattle.std.specs.Str.Iter.{LacksByte}
 use Rattle.std.specs.List.{join_with_byte}
 
 -- a byte that is no space belongs to the first word
 stays : (b : ℕ) (bs : List ℕ) → (b ≡ 32 → ⊥) → words_of (b ∷ bs) ≡ before b (words_of bs)
-stays b bs other = cond_false (eqb b 32) ([] ∷ words_of bs) (before b (words_of bs)) (ne_eqb b 32 other)
+stays b bs other = cond-false (eqb b 32) ([] ∷ words_of bs) (before b (words_of bs)) (ne_eqb b 32 other)
 
 behind : (b : ℕ) (bs : List ℕ) → LacksByte 32 (b ∷ bs) → LacksByte 32 bs
 behind b bs free k h e = free (suc k) (omega arith) e
@@ -40,7 +40,7 @@ words_split line (Err e) same some free = tt
 -- a line of bytes below 128, and one with another byte
 pub ascii_all : (bs : List ℕ) → IsAscii bs → ascii bs ≡ true
 ascii_all [] low = refl
-ascii_all (b ∷ bs) low = and_from (ltb b 128) (ascii bs) (lt_ltb b 128 (low 0)) (ascii_all bs (λ i. low (suc i)))
+ascii_all (b ∷ bs) low = and_from (ltb b 128) (ascii bs) (lt-ltb b 128 (low 0)) (ascii_all bs (λ i. low (suc i)))
 
 pub ascii_not : (bs : List ℕ) (i : ℕ) → 128 ≤ get_or bs i 0 → ascii bs ≡ false
 ascii_not [] i high = absurd (omega arith)

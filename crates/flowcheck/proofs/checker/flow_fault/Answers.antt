@@ -7,8 +7,8 @@ use Rattle.flowcheck.specs.Walks.{contexts_after, fault_at, levels_after, or_els
 use Rattle.stack.specs.Stacks.{held}
 use Rattle.std.proofs.lemmas.List.{at_drop_more, at_drop_all}
 
-pub returns_in_Some : goal.returns_in_Some
-returns_in_Some g c =
+pub returns-in-Some : goal.returns-in-Some
+returns-in-Some g c =
     let b = said c.args.book.now in
     let x = setting (g.S.Scale.meaning c.args.scale.now) (g.M.Meter.meaning c.args.meter.now) b in
     let l = c.loop-place in
@@ -22,8 +22,8 @@ returns_in_Some g c =
     let found : fault_at x p cs ls i is ≡ Some c.in-Some.fault = sym c.in-Some.ensures in
     sym (sym l.invariant ∙ on ∙ ap (λ o. or_else o rest) found)
 
-pub loop_place_preserved : goal.loop_place_preserved
-loop_place_preserved g c =
+pub loop-place-preserved : goal.loop-place-preserved
+loop-place-preserved g c =
     let b = said c.args.book.now in
     let x = setting (g.S.Scale.meaning c.args.scale.now) (g.M.Meter.meaning c.args.meter.now) b in
     let l = c.loop-place in

@@ -11,10 +11,10 @@ use Rattle.std.proofs.lemmas.List.{length-take}
 within : (m : MeterModel) (b : Book) (p e : ℕ) → PartTolls m (said b).code p → matching_else (said b).code p ≡ Some e → e < 256
 within m b p e t found = omega (arith, (t.second e found).0, length-take b.count b.code, b.sizes)
 
-pub offset_bounds_tolls_other : goal.offset_bounds_tolls_other
-offset_bounds_tolls_other g c =
+pub offset-bounds-tolls-other : goal.offset-bounds-tolls-other
+offset-bounds-tolls-other g c =
     let w = within (g.M.Meter.meaning c.args.meter.now) c.args.book.now c.args.place c.in-Some.other c.parts-law.ensures cc in
     search rules
 
-pub bounds_tolls_other : goal.bounds_tolls_other
-bounds_tolls_other g c = within (g.M.Meter.meaning c.args.meter.now) c.args.book.now c.args.place c.in-Some.other c.parts-law.ensures cc
+pub bounds-tolls-other : goal.bounds-tolls-other
+bounds-tolls-other g c = within (g.M.Meter.meaning c.args.meter.now) c.args.book.now c.args.place c.in-Some.other c.parts-law.ensures cc

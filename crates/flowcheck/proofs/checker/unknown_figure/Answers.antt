@@ -3,26 +3,26 @@ use Rattle.flowcheck.proofs.checker.unknown_figure.Goals as goal
 use Rattle.flowcheck.specs.Checks.{unknown}
 use Rattle.refusal.specs.declared.check.CheckFault.TheVariants.{Level}
 use Rattle.std.proofs.lemmas.List.{at_drop_more, at_drop_all}
-use Rattle.std.proofs.lemmas.Bool.{cond_true, cond_false}
+use Rattle.std.proofs.lemmas.Bool.{cond-true, cond-false}
 
-pub returns_then_not_known : goal.returns_then_not_known
-returns_then_not_known g c =
+pub returns-then-not-known : goal.returns-then-not-known
+returns-then-not-known g c =
     let s = g.S.Scale.meaning c.args.scale.now in
     let ls = c.args.levels.now in
     let v = c.loop-figure.figure in
     let on = at_drop_more (unknown s (1 + v)) ls v 0 c.loop-figure-test.true in
     let no : s.known (get_or ls v 0) ≡ false = sym c.if-not-known.ensures in
-    ap (λ n. Some (Level n)) c.level-place.ensures ∙ sym (sym c.loop-figure.invariant ∙ on ∙ cond_false (s.known (get_or ls v 0)) (unknown s (1 + v + 1) (drop (v + 1) ls)) (Some (Level (1 + v))) no)
+    ap (λ n. Some (Level n)) c.level-place.ensures ∙ sym (sym c.loop-figure.invariant ∙ on ∙ cond-false (s.known (get_or ls v 0)) (unknown s (1 + v + 1) (drop (v + 1) ls)) (Some (Level (1 + v))) no)
 
-pub loop_figure_preserved : goal.loop_figure_preserved
-loop_figure_preserved g c =
+pub loop-figure-preserved : goal.loop-figure-preserved
+loop-figure-preserved g c =
     let s = g.S.Scale.meaning c.args.scale.now in
     let ls = c.args.levels.now in
     let v = c.loop-figure.figure in
     let on = at_drop_more (unknown s (1 + v)) ls v 0 c.loop-figure-test.true in
     let yes : s.known (get_or ls v 0) ≡ true = sym c.if-not-known.ensures in
     let next : 1 + (v + 1) ≡ 1 + v + 1 = omega arith in
-    ap (λ k. unknown s k (drop (v + 1) ls)) next ∙ sym (cond_true (s.known (get_or ls v 0)) (unknown s (1 + v + 1) (drop (v + 1) ls)) (Some (Level (1 + v))) yes) ∙ sym on ∙ c.loop-figure.invariant
+    ap (λ k. unknown s k (drop (v + 1) ls)) next ∙ sym (cond-true (s.known (get_or ls v 0)) (unknown s (1 + v + 1) (drop (v + 1) ls)) (Some (Level (1 + v))) yes) ∙ sym on ∙ c.loop-figure.invariant
 
 pub returns : goal.returns
 returns g c =

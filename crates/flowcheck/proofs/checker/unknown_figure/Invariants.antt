@@ -2,5 +2,5 @@ use Rattle.std.proofs.Common.{◌≡◌, ◌+◌, drop}
 use Rattle.flowcheck.proofs.checker.unknown_figure.Given as goal
 use Rattle.flowcheck.specs.Checks.{unknown}
 
-abbrev pub invariant_loop_figure : goal.invariant_loop_figure
-invariant_loop_figure g l = unknown (g.S.Scale.meaning l.scale) (1 + l.figure) (drop l.figure l.levels) ≡ unknown (g.S.Scale.meaning l.scale) 1 l.levels
+abbrev pub invariant-loop-figure : goal.invariant-loop-figure
+invariant-loop-figure g l = unknown (g.S.Scale.meaning l.scale) (1 + l.figure) (drop l.figure l.levels) ≡ unknown (g.S.Scale.meaning l.scale) 1 l.levels

@@ -6,15 +6,15 @@ use Rattle.stack.specs.Stacks.{held}
 use Rattle.std.proofs.lemmas.List.{at_drop_more, at_drop_all, get_or-set_same, get_or-set_other, length-set}
 use Rattle.std.proofs.lemmas.Bool.{cases_eq}
 
-pub loop_place_init : goal.loop_place_init
-loop_place_init g c =
+pub loop-place-init : goal.loop-place-init
+loop-place-init g c =
     let m = g.M.Meter.meaning c.args.meter.now in
     let code = c.args.code.now in
     let all = at_drop_all (back m) code (length code) (omega arith) in
     (c.new-pass.ensures.0 ∙ sym (ap (λ (s : Seen). s.ticks) all), c.new-pass.ensures.1 ∙ sym (ap (λ (s : Seen). s.around) all), λ k h l. absurd (omega arith), refl)
 
-pub loop_place_preserved : goal.loop_place_preserved
-loop_place_preserved g c =
+pub loop-place-preserved : goal.loop-place-preserved
+loop-place-preserved g c =
     let m = g.M.Meter.meaning c.args.meter.now in
     let code = c.args.code.now in
     let l = c.loop-place in

@@ -10,8 +10,8 @@ at c = ap (matching_else c.args.code.now) (sym c.new-cursor.ensures) ∙ sym c.i
 within : (c : In-ok-other) → c.in-ok-other.other < length c.args.code.now
 within c = matching_within c.args.code.now c.args.place c.in-ok-other.other (omega arith) (at c)
 
-pub overflow_cast_result : goal.overflow_cast_result
-overflow_cast_result c = let w = within c in search rules
+pub overflow-cast-result : goal.overflow-cast-result
+overflow-cast-result c = let w = within c in search rules
 
 pub returns : goal.returns
 returns c = let w = within (goal.at.returns c).In-ok-other in record { found = sym (at (goal.at.returns c).In-ok-other); within = omega (arith, w) }

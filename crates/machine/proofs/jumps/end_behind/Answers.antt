@@ -4,8 +4,8 @@ use Rattle.machine.proofs.jumps.end_behind.Goals as goal
 use Rattle.machine.specs.Jumps.{end_from, opened}
 use Rattle.std.proofs.lemmas.List.{at_drop_more, at_drop_all}
 
-pub returns_in_None : goal.returns_in_None
-returns_in_None c =
+pub returns-in-None : goal.returns-in-None
+returns-in-None c =
     let l = c.loop-at in
     let code = c.args.code.now in
     let i = get_or code l.at Stop in
@@ -13,8 +13,8 @@ returns_in_None c =
     let here = c.in-None.ensures l.at (end_from (opened i l.depth) (l.at + 1) (drop (l.at + 1) code)) in
     record { end = sym (sym l.invariant.1 ∙ on ∙ here); within = omega arith }
 
-pub loop_at_preserved : goal.loop_at_preserved
-loop_at_preserved c =
+pub loop-at-preserved : goal.loop-at-preserved
+loop-at-preserved c =
     let l = c.loop-at in
     let code = c.args.code.now in
     let i = get_or code l.at Stop in

@@ -5,8 +5,8 @@ use Rattle.machine.proofs.Tables.{row_less}
 use Rattle.machine.specs.Jumps.{jumps_from}
 use Rattle.std.proofs.lemmas.List.{drop_more}
 
-pub loop_place_preserved : goal.loop_place_preserved
-loop_place_preserved c =
+pub loop-place-preserved : goal.loop-place-preserved
+loop-place-preserved c =
     let code = c.args.code.now in
     let l = c.loop-place in
     let n = length code in

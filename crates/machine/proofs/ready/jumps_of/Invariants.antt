@@ -4,8 +4,8 @@ use Rattle.machine.specs.Blocks.{Open}
 use Rattle.machine.specs.Jumps.{jumps_from}
 use Rattle.stack.specs.Stacks.{held}
 
-abbrev pub invariant_loop_place : goal.invariant_loop_place
-invariant_loop_place l =
+abbrev pub invariant-loop-place : goal.invariant-loop-place
+invariant-loop-place l =
     (length l.row ≡ 256)
     × Open l.place (drop l.place l.code) (held l.ends)
     × (take (length l.code - l.place) (drop l.place l.row) ≡ jumps_from l.code (length l.code - l.place) l.place)

@@ -3,8 +3,8 @@ use Rattle.reader.proofs.fields.levels.Goals as goal
 use Rattle.book.proofs.Rows.{row_more}
 use Rattle.book.specs.Reads.{word, words}
 
-pub loop_i_preserved : goal.loop_i_preserved
-loop_i_preserved c =
+pub loop-i-preserved : goal.loop-i-preserved
+loop-i-preserved c =
     let bs = c.args.bytes.now in
     let l = c.loop-i in
     let p = c.args.at in (

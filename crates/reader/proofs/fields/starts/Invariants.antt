@@ -2,5 +2,5 @@ use Rattle.std.proofs.Common.{◌≡◌, ◌+◌, ◌-◌, ◌*◌, ◌++◌, le
 use Rattle.reader.proofs.fields.starts.Given as goal
 use Rattle.book.specs.Reads.{longs}
 
-abbrev pub invariant_loop_i : goal.invariant_loop_i
-invariant_loop_i l = (length l.row ≡ 32) × (take l.i l.row ++ longs (l.count - l.i) (l.at + 4 * l.i) l.bytes ≡ longs l.count l.at l.bytes)
+abbrev pub invariant-loop-i : goal.invariant-loop-i
+invariant-loop-i l = (length l.row ≡ 32) × (take l.i l.row ++ longs (l.count - l.i) (l.at + 4 * l.i) l.bytes ≡ longs l.count l.at l.bytes)

@@ -5,8 +5,8 @@ use Rattle.book.specs.Counts.{stops}
 use Rattle.book.specs.declared.instruction.Instruction.TheVariants.{Stop}
 use Rattle.std.proofs.lemmas.List.{at_drop_more, at_drop_all}
 
-pub loop_place_preserved : goal.loop_place_preserved
-loop_place_preserved c =
+pub loop-place-preserved : goal.loop-place-preserved
+loop-place-preserved c =
     let l = c.loop-place in
     let code = c.args.code.now in
     let rest = stops (drop (l.place + 1) code) in

@@ -5,8 +5,8 @@ use Rattle.stack.specs.Stacks.{held}
 use Rattle.std.proofs.lemmas.Result.{err_from_is_err_and}
 use Rattle.std.proofs.lemmas.Int.{to_z-of_z}
 
-pub returns_in_err_row : goal.returns_in_err_row
-returns_in_err_row c =
+pub returns-in-err-row : goal.returns-in-err-row
+returns-in-err-row c =
     let p = err_from_is_err_and c.from-residual.result c.from-residual.ensures.1 in
     let a = c.args in
     let l = c.loop-place in
@@ -17,8 +17,8 @@ returns_in_err_row c =
       items = scan_off a.figures a.count a.at (a.at + a.count) a.bytes.now l.row l.place l.scan.height (held l.scan.blocks) _ (omega arith) (to_z-of_z w32 _ (search rules) ∙ c.long-argument.ensures) c.in-err-row.field-0.0 after.height (held after.blocks) _ c.in-err-row.ensures l.invariant.1;
     })
 
-pub loop_place_preserved : goal.loop_place_preserved
-loop_place_preserved c =
+pub loop-place-preserved : goal.loop-place-preserved
+loop-place-preserved c =
     let a = c.args in
     let l = c.loop-place in
     let after = c.next-instruction.new.scan in (

@@ -6,8 +6,8 @@ use Rattle.stack.specs.Stacks.{held}
 use Rattle.std.proofs.lemmas.Int.{to_z-of_z}
 use Rattle.std.specs.Result.{result_ok}
 
-pub returns_in_Some : goal.returns_in_Some
-returns_in_Some c =
+pub returns-in-Some : goal.returns-in-Some
+returns-in-Some c =
     let s = c.args.scan.now in
     let same = sym (to_z-of_z w32 c.args.argument c.ranges.argument) in
     let found = ap (λ z. decoded c.args.figures c.args.code z) same ∙ sym c.decode.ensures ∙ c.ok-or.ensures.ok-part ∙ ap result_ok c.in-ok-instruction.was in

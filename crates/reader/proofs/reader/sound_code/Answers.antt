@@ -6,8 +6,8 @@ use Rattle.book.proofs.Sounds.{finished_sound}
 use Rattle.book.specs.Reads.{raws, scan}
 use Rattle.book.specs.Weighs.{closing_fault}
 
-pub returns_in_Some : goal.returns_in_Some
-returns_in_Some c =
+pub returns-in-Some : goal.returns-in-Some
+returns-in-Some c =
     let a = c.args in
     let rs = raws a.count a.at (a.at + a.count) a.bytes.now in
     let is = take a.count c.in-ok-row.row in

@@ -8,8 +8,8 @@ use Rattle.book.specs.Weighs.{capped, factor, heaviest}
 use Rattle.stack.specs.Stacks.{held}
 use Rattle.std.proofs.lemmas.List.{at_drop_more, at_drop_all}
 
-pub returns_then_heavy : goal.returns_then_heavy
-returns_then_heavy c =
+pub returns-then-heavy : goal.returns-then-heavy
+returns-then-heavy c =
     let l = c.loop-place in
     let code = c.args.code.now in
     let ks = held l.event.factors in
@@ -20,8 +20,8 @@ returns_then_heavy c =
     let inv = l.invariant in
     cc
 
-pub loop_place_preserved : goal.loop_place_preserved
-loop_place_preserved c =
+pub loop-place-preserved : goal.loop-place-preserved
+loop-place-preserved c =
     let l = c.loop-place in
     let code = c.args.code.now in
     let ks = held l.event.factors in

@@ -2,8 +2,8 @@ use Rattle.std.proofs.Common.{sym, ◌∙◌, arith}
 use Rattle.book.proofs.Finishes.{stops_at, stops_none}
 use Rattle.reader.proofs.weigh.stops_last.Goals as goal
 
-pub returns_then_code_eq0 : goal.returns_then_code_eq0
-returns_then_code_eq0 c = sym (stops_none c.args.code.now (omega arith))
+pub returns-then-code-eq0 : goal.returns-then-code-eq0
+returns-then-code-eq0 c = sym (stops_none c.args.code.now (omega arith))
 
 pub returns : goal.returns
 returns c = c.is-stop.ensures ∙ sym (stops_at c.args.code.now (omega arith))

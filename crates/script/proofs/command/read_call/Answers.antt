@@ -12,129 +12,129 @@ use Rattle.script.specs.Words.{integer, natural, texts}
 use Rattle.std.specs.declared.alloc.Global.{Global}
 use Rattle.std.specs.Option.{option_map}
 
-pub returns_in_load : goal.returns_in_load
-returns_in_load c = call_load_none c.args.words.now (omega (arith, ltb-true, ltb-false)) c.in-load.is-load ∙ ap (λ (bs : List ℕ). Some (load bs)) (sym c.new.ensures.items)
+pub returns-in-load : goal.returns-in-load
+returns-in-load c = call_load_none c.args.words.now (omega (arith, ltb-true, ltb-false)) c.in-load.is-load ∙ ap (λ (bs : List ℕ). Some (load bs)) (sym c.new.ensures.items)
 
-pub returns_in_tally : goal.returns_in_tally
-returns_in_tally c = call_tally c.args.words.now (omega (arith, ltb-true, ltb-false)) c.in-tally.is-tally
+pub returns-in-tally : goal.returns-in-tally
+returns-in-tally c = call_tally c.args.words.now (omega (arith, ltb-true, ltb-false)) c.in-tally.is-tally
 
-pub returns_in_err_read_bytes : goal.returns_in_err_read_bytes
-returns_in_err_read_bytes c =
+pub returns-in-err-read-bytes : goal.returns-in-err-read-bytes
+returns-in-err-read-bytes c =
     let ws = c.args.words.now in
     reads_part call_of (call_spelled (texts ws)) (vec_items {Z = Global}) (bytes (at ws 1)) c.in-err-read-bytes.field-0.0 c.from-residual.result c.from-residual.ensures.1 c.in-err-read-bytes.ensures
     (λ none. call_load ws (omega (arith, ltb-true, ltb-false)) c.in-load-2.is-load ∙ ap (option_map load) none)
 
-pub returns_in_ok_read_bytes : goal.returns_in_ok_read_bytes
-returns_in_ok_read_bytes c =
+pub returns-in-ok-read-bytes : goal.returns-in-ok-read-bytes
+returns-in-ok-read-bytes c =
     let ws = c.args.words.now in
     call_load ws (omega (arith, ltb-true, ltb-false)) c.in-load-2.is-load ∙ ap (option_map load) c.in-ok-read-bytes.ensures
 
-pub returns_in_err_read_natural : goal.returns_in_err_read_natural
-returns_in_err_read_natural c =
+pub returns-in-err-read-natural : goal.returns-in-err-read-natural
+returns-in-err-read-natural c =
     let ws = c.args.words.now in
     reads_part call_of (call_spelled (texts ws)) (λ n. n) (natural 32 (at ws 1)) c.in-err-read-natural.field-0.0 c.from-residual-in-err-read-natural.result c.from-residual-in-err-read-natural.ensures.1 c.in-err-read-natural.ensures
     (λ none. call_run ws (omega (arith, ltb-true, ltb-false)) c.in-run.is-run ∙ ap (option_map run) none)
 
-pub returns_in_ok_read_natural : goal.returns_in_ok_read_natural
-returns_in_ok_read_natural c =
+pub returns-in-ok-read-natural : goal.returns-in-ok-read-natural
+returns-in-ok-read-natural c =
     let ws = c.args.words.now in
     call_run ws (omega (arith, ltb-true, ltb-false)) c.in-run.is-run ∙ ap (option_map run) c.in-ok-read-natural.ensures
 
-pub returns_in_err_read_level : goal.returns_in_err_read_level
-returns_in_err_read_level c =
+pub returns-in-err-read-level : goal.returns-in-err-read-level
+returns-in-err-read-level c =
     let ws = c.args.words.now in
     reads_part call_of (call_spelled (texts ws)) (λ n. n) (natural 16 (at ws 1)) c.in-err-read-level.field-0.0 c.from-residual-in-err-read-level.result c.from-residual-in-err-read-level.ensures.1 c.in-err-read-level.ensures
     (λ none. call_clock ws (omega (arith, ltb-true, ltb-false)) c.in-clock.is-clock ∙ ap (option_map clock) none)
 
-pub returns_in_ok_read_level : goal.returns_in_ok_read_level
-returns_in_ok_read_level c =
+pub returns-in-ok-read-level : goal.returns-in-ok-read-level
+returns-in-ok-read-level c =
     let ws = c.args.words.now in
     call_clock ws (omega (arith, ltb-true, ltb-false)) c.in-clock.is-clock ∙ ap (option_map clock) c.in-ok-read-level.ensures
 
-pub returns_in_err_read_natural_2 : goal.returns_in_err_read_natural_2
-returns_in_err_read_natural_2 c =
+pub returns-in-err-read-natural-2 : goal.returns-in-err-read-natural-2
+returns-in-err-read-natural-2 c =
     let ws = c.args.words.now in
     reads_part call_of (call_spelled (texts ws)) (λ n. n) (natural 32 (at ws 1)) c.in-err-read-natural-2.field-0.0 c.from-residual-in-err-read-natural-2.result c.from-residual-in-err-read-natural-2.ensures.1 c.in-err-read-natural-2.ensures
     (λ none. call_put ws (omega (arith, ltb-true, ltb-false)) c.in-put.is-put ∙ ap (λ (o : Option ℕ). given (option_map (λ v a. put v a) o) (integer (at ws 2))) none)
 
-pub returns_in_err_read_amount : goal.returns_in_err_read_amount
-returns_in_err_read_amount c =
+pub returns-in-err-read-amount : goal.returns-in-err-read-amount
+returns-in-err-read-amount c =
     let ws = c.args.words.now in
     reads_part call_of (call_spelled (texts ws)) (λ a. a) (integer (at ws 2)) c.in-err-read-amount.field-0.0 c.from-residual-in-err-read-amount.result c.from-residual-in-err-read-amount.ensures.1 c.in-err-read-amount.ensures
     (λ none. call_put ws (omega (arith, ltb-true, ltb-false)) c.in-put.is-put ∙ ap (given (option_map (λ v a. put v a) (natural 32 (at ws 1)))) none ∙ given_none (option_map (λ v a. put v a) (natural 32 (at ws 1))))
 
-pub returns_in_ok_read_amount : goal.returns_in_ok_read_amount
-returns_in_ok_read_amount c =
+pub returns-in-ok-read-amount : goal.returns-in-ok-read-amount
+returns-in-ok-read-amount c =
     let ws = c.args.words.now in
     let same : to_z w32 (of_z w32 c.in-ok-read-amount.field-0) ≡ c.in-ok-read-amount.field-0 = search rules in
     call_put ws (omega (arith, ltb-true, ltb-false)) c.in-put.is-put ∙ ap (λ (o : Option ℕ). given (option_map (λ v a. put v a) o) (integer (at ws 2))) c.in-ok-read-natural-2.ensures ∙ ap (given (Some (λ a. put c.in-ok-read-natural-2.field-0 a))) c.in-ok-read-amount.ensures
     ∙ ap (λ (a : ℤ). Some (put c.in-ok-read-natural-2.field-0 a)) (sym same)
 
-pub returns_in_err_read_level_2 : goal.returns_in_err_read_level_2
-returns_in_err_read_level_2 c =
+pub returns-in-err-read-level-2 : goal.returns-in-err-read-level-2
+returns-in-err-read-level-2 c =
     let ws = c.args.words.now in
     reads_part call_of (call_spelled (texts ws)) (λ n. n) (natural 16 (at ws 1)) c.in-err-read-level-2.field-0.0 c.from-residual-in-err-read-level-2.result c.from-residual-in-err-read-level-2.ensures.1 c.in-err-read-level-2.ensures
     (λ none. call_show ws (omega (arith, ltb-true, ltb-false)) c.in-show.is-show ∙ ap (λ (o : Option ℕ). given (option_map (λ l v. show l v) o) (natural 32 (at ws 2))) none)
 
-pub returns_in_err_read_natural_3 : goal.returns_in_err_read_natural_3
-returns_in_err_read_natural_3 c =
+pub returns-in-err-read-natural-3 : goal.returns-in-err-read-natural-3
+returns-in-err-read-natural-3 c =
     let ws = c.args.words.now in
     reads_part call_of (call_spelled (texts ws)) (λ n. n) (natural 32 (at ws 2)) c.in-err-read-natural-3.field-0.0 c.from-residual-in-err-read-natural-3.result c.from-residual-in-err-read-natural-3.ensures.1 c.in-err-read-natural-3.ensures
     (λ none. call_show ws (omega (arith, ltb-true, ltb-false)) c.in-show.is-show ∙ ap (given (option_map (λ l v. show l v) (natural 16 (at ws 1)))) none ∙ given_none (option_map (λ l v. show l v) (natural 16 (at ws 1))))
 
-pub returns_in_ok_read_natural_3 : goal.returns_in_ok_read_natural_3
-returns_in_ok_read_natural_3 c =
+pub returns-in-ok-read-natural-3 : goal.returns-in-ok-read-natural-3
+returns-in-ok-read-natural-3 c =
     let ws = c.args.words.now in
     call_show ws (omega (arith, ltb-true, ltb-false)) c.in-show.is-show ∙ ap (λ (o : Option ℕ). given (option_map (λ l v. show l v) o) (natural 32 (at ws 2))) c.in-ok-read-level-2.ensures ∙ ap (given (Some (λ v. show c.in-ok-read-level-2.field-0 v))) c.in-ok-read-natural-3.ensures
 
-pub returns_in_err_read_level_3 : goal.returns_in_err_read_level_3
-returns_in_err_read_level_3 c =
+pub returns-in-err-read-level-3 : goal.returns-in-err-read-level-3
+returns-in-err-read-level-3 c =
     let ws = c.args.words.now in
     reads_part call_of (call_spelled (texts ws)) (λ n. n) (natural 16 (at ws 1)) c.in-err-read-level-3.field-0.0 c.from-residual-in-err-read-level-3.result c.from-residual-in-err-read-level-3.ensures.1 c.in-err-read-level-3.ensures
     (λ none. call_open ws (omega (arith, ltb-true, ltb-false)) c.in-open.is_open ∙ ap (λ (o : Option ℕ). given (given (option_map (λ h from to. open_slip h from to) o) (natural 32 (at ws 2))) (natural 32 (at ws 3))) none)
 
-pub returns_in_err_read_natural_4 : goal.returns_in_err_read_natural_4
-returns_in_err_read_natural_4 c =
+pub returns-in-err-read-natural-4 : goal.returns-in-err-read-natural-4
+returns-in-err-read-natural-4 c =
     let ws = c.args.words.now in
     reads_part call_of (call_spelled (texts ws)) (λ n. n) (natural 32 (at ws 2)) c.in-err-read-natural-4.field-0.0 c.from-residual-in-err-read-natural-4.result c.from-residual-in-err-read-natural-4.ensures.1 c.in-err-read-natural-4.ensures
     (λ none. call_open ws (omega (arith, ltb-true, ltb-false)) c.in-open.is_open ∙ ap (λ (o : Option ℕ). given (given (option_map (λ h from to. open_slip h from to) (natural 16 (at ws 1))) o) (natural 32 (at ws 3))) none ∙ ap (λ (o : Option (ℕ → Call)). given o (natural 32 (at ws 3))) (given_none (option_map (λ h from to. open_slip h from to) (natural 16 (at ws 1)))))
 
-pub returns_in_err_read_natural_5 : goal.returns_in_err_read_natural_5
-returns_in_err_read_natural_5 c =
+pub returns-in-err-read-natural-5 : goal.returns-in-err-read-natural-5
+returns-in-err-read-natural-5 c =
     let ws = c.args.words.now in
     reads_part call_of (call_spelled (texts ws)) (λ n. n) (natural 32 (at ws 3)) c.in-err-read-natural-5.field-0.0 c.from-residual-in-err-read-natural-5.result c.from-residual-in-err-read-natural-5.ensures.1 c.in-err-read-natural-5.ensures
     (λ none. call_open ws (omega (arith, ltb-true, ltb-false)) c.in-open.is_open ∙ ap (given (given (option_map (λ h from to. open_slip h from to) (natural 16 (at ws 1))) (natural 32 (at ws 2)))) none ∙ given_none (given (option_map (λ h from to. open_slip h from to) (natural 16 (at ws 1))) (natural 32 (at ws 2))))
 
-pub returns_in_ok_read_natural_5 : goal.returns_in_ok_read_natural_5
-returns_in_ok_read_natural_5 c =
+pub returns-in-ok-read-natural-5 : goal.returns-in-ok-read-natural-5
+returns-in-ok-read-natural-5 c =
     let ws = c.args.words.now in
     call_open ws (omega (arith, ltb-true, ltb-false)) c.in-open.is_open ∙ ap (λ (o : Option ℕ). given (given (option_map (λ h from to. open_slip h from to) o) (natural 32 (at ws 2))) (natural 32 (at ws 3))) c.in-ok-read-level-3.ensures ∙ ap (λ (o : Option ℕ). given (given (Some (λ from to. open_slip c.in-ok-read-level-3.field-0 from to)) o) (natural 32 (at ws 3))) c.in-ok-read-natural-4.ensures ∙ ap (given (Some (λ to. open_slip c.in-ok-read-level-3.field-0 c.in-ok-read-natural-4.field-0 to))) c.in-ok-read-natural-5.ensures
 
-pub returns_in_err_read_numbers : goal.returns_in_err_read_numbers
-returns_in_err_read_numbers c =
+pub returns-in-err-read-numbers : goal.returns-in-err-read-numbers
+returns-in-err-read-numbers c =
     let ws = c.args.words.now in
     reads_part call_of (call_spelled (texts ws)) paper_of (slip_spelled (at ws 1) (at ws 2) (at ws 3) (at ws 4)) c.in-err-read-numbers.field-0.0 c.from-residual-in-err-read-numbers.result c.from-residual-in-err-read-numbers.ensures.1 c.in-err-read-numbers.ensures
     (λ none. call_carry ws (omega (arith, ltb-true, ltb-false)) c.in-carry.is-carry ∙ ap (option_map carry) none)
 
-pub returns_in_ok_read_numbers : goal.returns_in_ok_read_numbers
-returns_in_ok_read_numbers c =
+pub returns-in-ok-read-numbers : goal.returns-in-ok-read-numbers
+returns-in-ok-read-numbers c =
     let ws = c.args.words.now in
     call_carry ws (omega (arith, ltb-true, ltb-false)) c.in-carry.is-carry ∙ ap (option_map carry) c.in-ok-read-numbers.ensures
 
-pub returns_in_err_read_numbers_2 : goal.returns_in_err_read_numbers_2
-returns_in_err_read_numbers_2 c =
+pub returns-in-err-read-numbers-2 : goal.returns-in-err-read-numbers-2
+returns-in-err-read-numbers-2 c =
     let ws = c.args.words.now in
     reads_part call_of (call_spelled (texts ws)) paper_of (slip_spelled (at ws 1) (at ws 2) (at ws 3) (at ws 4)) c.in-err-read-numbers-2.field-0.0 c.from-residual-in-err-read-numbers-2.result c.from-residual-in-err-read-numbers-2.ensures.1 c.in-err-read-numbers-2.ensures
     (λ none. call_withdraw ws (omega (arith, ltb-true, ltb-false)) c.in-withdraw.is-withdraw ∙ ap (option_map withdraw) none)
 
-pub returns_in_ok_read_numbers_2 : goal.returns_in_ok_read_numbers_2
-returns_in_ok_read_numbers_2 c =
+pub returns-in-ok-read-numbers-2 : goal.returns-in-ok-read-numbers-2
+returns-in-ok-read-numbers-2 c =
     let ws = c.args.words.now in
     call_withdraw ws (omega (arith, ltb-true, ltb-false)) c.in-withdraw.is-withdraw ∙ ap (option_map withdraw) c.in-ok-read-numbers-2.ensures
 
 -- words that no call has, by how many there are
-pub returns_in_default : goal.returns_in_default
-returns_in_default c =
+pub returns-in-default : goal.returns-in-default
+returns-in-default c =
     let ws = c.args.words.now in
     elim c.in-default.branch [
       | in-default-via-then-words-lt1 w ↦ call_none ws (omega (arith, ltb-true, ltb-false))

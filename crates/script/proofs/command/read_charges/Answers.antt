@@ -8,7 +8,7 @@ use Rattle.script.specs.Asked.{charges_spelled, each_natural}
 use Rattle.script.specs.Hex.{in_front}
 use Rattle.script.specs.Words.{natural, texts}
 use Rattle.std.proofs.lemmas.List.{append-nil, at_drop_all, at_drop_more, take_all, take_more_set}
-use Rattle.std.proofs.lemmas.Bool.{cond_false, cond_true, eq-eqb, ne_eqb}
+use Rattle.std.proofs.lemmas.Bool.{cond-false, cond-true, eq-eqb, ne_eqb}
 
 -- the word at a place, in front of what the others spell
 step : (ws : List (Bor (List ℕ))) (i : ℕ) → i < length ws → each_natural (texts (drop i ws)) ≡ in_front (natural 32 (at ws i)) (each_natural (texts (drop (i + 1) ws)))
@@ -16,18 +16,18 @@ step ws i h = at_drop_more (λ (l : List (Bor (List ℕ))). each_natural (texts 
 
 -- twelve words, and no twelve words
 twelve : (ws : List (Bor (List ℕ))) → length ws ≡ 12 → charges_spelled (texts ws) ≡ each_natural (texts ws)
-twelve ws n = cond_true (eqb (length (texts ws)) 12) (each_natural (texts ws)) None (eq-eqb (length (texts ws)) 12 (length-map ws (λ x. x.now) ∙ n))
+twelve ws n = cond-true (eqb (length (texts ws)) 12) (each_natural (texts ws)) None (eq-eqb (length (texts ws)) 12 (length-map ws (λ x. x.now) ∙ n))
 
-pub returns_then_words_ne12 : goal.returns_then_words_ne12
-returns_then_words_ne12 c =
+pub returns-then-words-ne12 : goal.returns-then-words-ne12
+returns-then-words-ne12 c =
     let ws = c.args.words.now in
-    cond_false (eqb (length (texts ws)) 12) (each_natural (texts ws)) None (ne_eqb (length (texts ws)) 12 (λ e. c.if-words-ne12.true (sym (length-map ws (λ x. x.now)) ∙ e)))
+    cond-false (eqb (length (texts ws)) 12) (each_natural (texts ws)) None (ne_eqb (length (texts ws)) 12 (λ e. c.if-words-ne12.true (sym (length-map ws (λ x. x.now)) ∙ e)))
 
-pub loop_place_init : goal.loop_place_init
-loop_place_init c = (c.if-words-ne12.false, refl, sym (behind_nothing (each_natural (texts c.args.words.now))))
+pub loop-place-init : goal.loop-place-init
+loop-place-init c = (c.if-words-ne12.false, refl, sym (behind_nothing (each_natural (texts c.args.words.now))))
 
-pub loop_place_preserved : goal.loop_place_preserved
-loop_place_preserved c =
+pub loop-place-preserved : goal.loop-place-preserved
+loop-place-preserved c =
     let ws = c.args.words.now in
     let i = c.loop-place.place in
     let charges = c.loop-place.charges in
@@ -54,8 +54,8 @@ returns c =
     twelve ws inv.0 ∙ inv.2 ∙ ap (behind (take i charges)) (at_drop_all (λ (l : List (Bor (List ℕ))). each_natural (texts l)) ws i all)
     ∙ ap Some (append-nil (take i charges) ∙ take_all i charges full)
 
-pub returns_in_err_charges : goal.returns_in_err_charges
-returns_in_err_charges c =
+pub returns-in-err-charges : goal.returns-in-err-charges
+returns-in-err-charges c =
     let ws = c.args.words.now in
     let i = c.loop-place.place in
     let front = take i c.loop-place.charges in

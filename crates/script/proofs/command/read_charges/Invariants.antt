@@ -5,7 +5,7 @@ use Rattle.script.specs.Asked.{each_natural}
 use Rattle.script.specs.Words.{texts}
 
 -- the charges so far, and behind them what the other words spell
-abbrev pub invariant_loop_place : goal.invariant_loop_place
-invariant_loop_place l =
+abbrev pub invariant-loop-place : goal.invariant-loop-place
+invariant-loop-place l =
     (length l.words ≡ 12) × (length l.charges ≡ 12)
     × (each_natural (texts l.words) ≡ behind (take l.place l.charges) (each_natural (texts (drop l.place l.words))))

@@ -6,8 +6,8 @@ use Rattle.std.proofs.lemmas.List.{length-drop}
 use Rattle.std.proofs.lemmas.Slice.{between_to_end}
 
 -- what stands behind the line feed
-pub returns_then_byte_eq10 : goal.returns_then_byte_eq10
-returns_then_byte_eq10 c =
+pub returns-then-byte-eq10 : goal.returns-then-byte-eq10
+returns-then-byte-eq10 c =
     let bs = c.args.script.now in
     let n = c.loop-place.place in
     let h : n < length bs = omega arith in

@@ -6,16 +6,16 @@ use Rattle.script.specs.Hex.{bytes, bytes_value, byte_value}
 use Rattle.std.specs.Slice.Iter.{chunks_rest, chunks_size}
 
 -- to begin with there are no bytes
-pub loop_digits_init : goal.loop_digits_init
-loop_digits_init c =
+pub loop-digits-init : goal.loop-digits-init
+loop-digits-init c =
     let it = c.into-iter-digits-iterator.result in
     let size : chunks_size it ≡ 2 = ap chunks_size c.into-iter-digits-iterator.ensures.into-iter-gives ∙ c.chunks-digits-items.ensures.size in
     let positive : 0 < chunks_size it = omega arith in
     (tt, positive, size, sym (ap (λ (xs : List ℕ). behind xs (bytes_value (chunks_rest it))) c.new-bytes.ensures.items ∙ behind_nothing (bytes_value (chunks_rest it))))
 
 -- one byte more
-pub loop_digits_preserved : goal.loop_digits_preserved
-loop_digits_preserved c =
+pub loop-digits-preserved : goal.loop-digits-preserved
+loop-digits-preserved c =
     let step = c.in-Some.ensures.steps in
     let inv = c.loop-digits.invariant in
     let it = c.loop-digits.digits-iterator in
@@ -34,8 +34,8 @@ loop_digits_preserved c =
     (tt, positive, size, read_more word front piece rest (byte_value piece) read some long refl b is ∙ ap (λ (xs : List ℕ). behind xs (bytes_value rest)) (sym c.in-ok-push.ensures.items))
 
 -- two digits that are none
-pub returns_in_err_ok_or : goal.returns_in_err_ok_or
-returns_in_err_ok_or c =
+pub returns-in-err-ok-or : goal.returns-in-err-ok-or
+returns-in-err-ok-or c =
     let step = c.in-Some.ensures.steps in
     let inv = c.loop-digits.invariant in
     let it = c.loop-digits.digits-iterator in

@@ -3,7 +3,7 @@ use Rattle.script.proofs.text.number.Goals as goal
 use Rattle.std.proofs.lemmas.Str.Pattern.{starts_char}
 use Rattle.std.proofs.lemmas.Bool.{true≢false}
 
-pub returns_in_Ok : goal.returns_in_Ok
-returns_in_Ok g c =
+pub returns-in-Ok : goal.returns-in-Ok
+returns-in-Ok g c =
     let plus = starts_char 43 c.args.word.now c.starts-with.result c.starts-with.ensures.cases (lit< tt) (lit< tt) in
     (λ e. true≢false (sym (plus.1 e) ∙ c.if-starts-with.false), c.in-Ok.ensures.value)

@@ -3,8 +3,8 @@ use Rattle.std.proofs.lemmas.List.{take_all, take_more, take_more_set}
 use Rattle.std.proofs.lemmas.Int.{to_z-of_z}
 use Rattle.steps.proofs.ledger.row_of.Goals as goal
 
-pub loop_place_preserved : goal.loop_place_preserved
-loop_place_preserved c =
+pub loop-place-preserved : goal.loop-place-preserved
+loop-place-preserved c =
     let l = c.loop-place in
     let amounts = c.args.amounts.now in
     let z = get_or amounts l.place (pos 0) in

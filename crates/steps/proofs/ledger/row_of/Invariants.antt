@@ -1,5 +1,5 @@
 use Rattle.std.proofs.Common.{◌≡◌, length, take}
 use Rattle.steps.proofs.ledger.row_of.Given as goal
 
-abbrev pub invariant_loop_place : goal.invariant_loop_place
-invariant_loop_place l = (length l.row ≡ 32) × (take l.place l.row ≡ take l.place l.amounts)
+abbrev pub invariant-loop-place : goal.invariant-loop-place
+invariant-loop-place l = (length l.row ≡ 32) × (take l.place l.row ≡ take l.place l.amounts)

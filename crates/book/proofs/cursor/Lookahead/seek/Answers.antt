@@ -4,8 +4,8 @@ use Rattle.book.specs.declared.instruction.Instruction.TheVariants.{Stop}
 use Rattle.book.specs.Looks.{seek}
 use Rattle.std.proofs.lemmas.List.{at_drop_more, at_drop_all}
 
-pub returns_in_Found : goal.returns_in_Found
-returns_in_Found c =
+pub returns-in-Found : goal.returns-in-Found
+returns-in-Found c =
     let l = c.loop-self in
     let p = l.self.cursor.now.place in
     let code = c.args.code.now in
@@ -13,8 +13,8 @@ returns_in_Found c =
     let seen = c.in-Found.ensures p (λ e. seek e (p + 1) (drop (p + 1) code)) in
     record { found = sym (sym l.invariant.1 ∙ on ∙ seen); start = l.invariant.2; lent = l.invariant.3 }
 
-pub returns_in_Nothing : goal.returns_in_Nothing
-returns_in_Nothing c =
+pub returns-in-Nothing : goal.returns-in-Nothing
+returns-in-Nothing c =
     let l = c.loop-self in
     let p = l.self.cursor.now.place in
     let code = c.args.code.now in
@@ -22,8 +22,8 @@ returns_in_Nothing c =
     let seen = c.in-Nothing.ensures p (λ e. seek e (p + 1) (drop (p + 1) code)) in
     record { found = sym (sym l.invariant.1 ∙ on ∙ seen); start = l.invariant.2; lent = l.invariant.3 }
 
-pub loop_self_preserved : goal.loop_self_preserved
-loop_self_preserved c =
+pub loop-self-preserved : goal.loop-self-preserved
+loop-self-preserved c =
     let l = c.loop-self in
     let p = l.self.cursor.now.place in
     let code = c.args.code.now in

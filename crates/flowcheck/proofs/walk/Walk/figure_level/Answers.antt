@@ -3,15 +3,15 @@ use Rattle.reader.specs.Books.{said}
 use Rattle.flowcheck.proofs.walk.Walk.figure_level.Goals as goal
 use Rattle.std.proofs.lemmas.List.{get_or_default, get_or_past}
 
-pub returns_then_figure_levels : goal.returns_then_figure_levels
-returns_then_figure_levels g c =
+pub returns-then-figure-levels : goal.returns-then-figure-levels
+returns-then-figure-levels g c =
     let ls = (said c.args.book.now).levels in
     let floor = (g.S.Scale.meaning c.args.scale.now).floor in
     let within : c.args.figure < length ls = omega (arith, ap length c.levels-levels.ensures) in
     ap (λ xs. get_or xs c.args.figure 0) c.levels-levels.ensures ∙ get_or_default ls c.args.figure 0 floor within
 
-pub returns_else_figure_levels : goal.returns_else_figure_levels
-returns_else_figure_levels g c =
+pub returns-else-figure-levels : goal.returns-else-figure-levels
+returns-else-figure-levels g c =
     let ls = (said c.args.book.now).levels in
     let floor = (g.S.Scale.meaning c.args.scale.now).floor in
     let past : length ls ≤ c.args.figure = omega (arith, ap length c.levels-levels.ensures) in

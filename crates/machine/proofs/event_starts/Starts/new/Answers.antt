@@ -5,8 +5,8 @@ use Rattle.machine.proofs.event_starts.Starts.new.Goals.{then-first, else-first}
 use Rattle.machine.specs.Events.{starts_from}
 use Rattle.std.proofs.lemmas.List.{append-nil, at_drop_all}
 
-pub loop_place_preserved : goal.loop_place_preserved
-loop_place_preserved c =
+pub loop-place-preserved : goal.loop-place-preserved
+loop-place-preserved c =
     let l = c.loop-place in
     let code = c.args.code.now in
     let kept = l.invariant.2 in

@@ -8,23 +8,23 @@ use Rattle.steps.specs.Machines.{perform}
 use Rattle.steps.specs.Runs.{exec, left, started, times}
 use Rattle.steps.specs.Seen.{machine_with, state_of}
 
-abbrev pub decreases_run_from : goal.decreases_run_from
-decreases_run_from g l = 2 * (length (said l.self.now.book).code - l.from)
+abbrev pub decreases-run-from : goal.decreases-run-from
+decreases-run-from g l = 2 * (length (said l.self.now.book).code - l.from)
 
-abbrev pub decreases_take_turns : goal.decreases_take_turns
-decreases_take_turns g l = 2 * (length (said l.self.now.book).code - l.from) + 1
+abbrev pub decreases-take-turns : goal.decreases-take-turns
+decreases-take-turns g l = 2 * (length (said l.self.now.book).code - l.from) + 1
 
-abbrev pub invariant_run_from_loop_place : goal.invariant_run_from_loop_place
-invariant_run_from_loop_place g l =
+abbrev pub invariant-run-from-loop-place : goal.invariant-run-from-loop-place
+invariant-run-from-loop-place g l =
     (l.from ≤ l.place)
     × (l.place ≤ length l.code)
     × (l.ifs ≤ l.place)
     × (through (g.M.Meter.meaning l.meter) l.ifs (parse (drop l.place (said l.self.book).code)) (machine_with l.machine l.row (state_of l.state).figures) ≡ exec (g.M.Meter.meaning l.meter) (here (parse (drop l.from (said l.self.book).code))) (started (state_of l.initial.state)))
 
-abbrev pub decreases_run_from_loop_place : goal.decreases_run_from_loop_place
-decreases_run_from_loop_place g l = length l.code - l.place
+abbrev pub decreases-run-from-loop-place : goal.decreases-run-from-loop-place
+decreases-run-from-loop-place g l = length l.code - l.place
 
-abbrev pub invariant_take_turns_loop : goal.invariant_take_turns_loop
-invariant_take_turns_loop g l =
+abbrev pub invariant-take-turns-loop : goal.invariant-take-turns-loop
+invariant-take-turns-loop g l =
     left (times (l.count - l.counter) (λ t. exec (g.M.Meter.meaning l.meter) (here (parse (drop l.from (said l.self.book).code))) (perform (g.M.Meter.meaning l.meter) (Repeat l.count) t)) (started (state_of l.state)))
     ≡ left (times l.count (λ t. exec (g.M.Meter.meaning l.meter) (here (parse (drop l.from (said l.self.book).code))) (perform (g.M.Meter.meaning l.meter) (Repeat l.count) t)) (started (state_of l.initial.state)))

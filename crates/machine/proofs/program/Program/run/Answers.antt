@@ -5,8 +5,8 @@ use Rattle.machine.proofs.program.Program.run.Goals as goal
 use Rattle.steps.specs.Runs.{exec, left, started}
 use Rattle.steps.specs.Seen.{state_of}
 
-pub returns_in_default : goal.returns_in_default
-returns_in_default g c =
+pub returns-in-default : goal.returns-in-default
+returns-in-default g c =
     let b = c.args.self.now.book in
     record {
       ran = (event_missing b.figures (said b).code b.formed c.args.event (sym c.start-of.ensures ∙ c.in-default.is), refl);
@@ -15,8 +15,8 @@ returns_in_default g c =
       privacy = c.run-laws.ensures.privacy;
     }
 
-pub run_from_requires : goal.run_from_requires
-run_from_requires g c =
+pub run-from-requires : goal.run-from-requires
+run-from-requires g c =
     let b = c.args.self.now.book in
     (event_found b.figures (said b).code b.formed c.args.event c.in-Some.start (sym c.start-of.ensures ∙ c.in-Some.is)).place
 

@@ -4,8 +4,8 @@ use Rattle.reader.proofs.scan.Scan.pass.Goals as goal
 use Rattle.stack.proofs.Tops.{few}
 use Rattle.stack.specs.Stacks.{held}
 
-pub returns_in_Else : goal.returns_in_Else
-returns_in_Else c =
+pub returns-in-Else : goal.returns-in-Else
+returns-in-Else c =
     let s = c.args.self.now.blocks in
     let e = replaced (held s) (few s) in
     search (rules, e)

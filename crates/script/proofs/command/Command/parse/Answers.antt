@@ -5,19 +5,19 @@ use Rattle.script.specs.Asked.{Ask, ascii, asked, spelled}
 use Rattle.script.specs.Calls.{ask_of}
 use Rattle.script.specs.Words.{Reads, texts, words_of}
 use Rattle.std.proofs.lemmas.Result.{MatchResult-at_ok}
-use Rattle.std.proofs.lemmas.Bool.{cond_false, cond_true}
+use Rattle.std.proofs.lemmas.Bool.{cond-false, cond-true}
 use Rattle.std.proofs.lemmas.Str.{IsUtf8-from_ascii}
 
 -- a byte above 127 stands in no word of a script
-pub returns_then_not_is_ascii : goal.returns_then_not_is_ascii
-returns_then_not_is_ascii c =
+pub returns-then-not-is-ascii : goal.returns-then-not-is-ascii
+returns-then-not-is-ascii c =
     let line = c.args.line.now in
     let high = c.if-not-is-ascii.ensures.cases in
-    cond_false (ascii line) (spelled (words_of line)) None (ascii_not line high.0 high.1)
+    cond-false (ascii line) (spelled (words_of line)) None (ascii_not line high.0 high.1)
 
 -- bytes below 128 are text
-pub unwrap_requires : goal.unwrap_requires
-unwrap_requires c = surely c.from-utf8.result _ _ c.from-utf8.ensures.cases (λ e h. h.0 (IsUtf8-from_ascii c.args.line.now c.if-not-is-ascii.ensures.cases))
+pub unwrap-requires : goal.unwrap-requires
+unwrap-requires c = surely c.from-utf8.result _ _ c.from-utf8.ensures.cases (λ e h. h.0 (IsUtf8-from_ascii c.args.line.now c.if-not-is-ascii.ensures.cases))
 
 pub returns : goal.returns
 returns c =
@@ -25,5 +25,5 @@ returns c =
     let low : ascii line ≡ true = ascii_all line c.if-not-is-ascii.ensures.cases in
     let text = MatchResult-at_ok _ _ c.unwrap.result c.unwrap.ensures c.from-utf8.ensures.cases in
     let words : texts c.as-slice.result.now ≡ words_of line = ap texts c.as-slice.ensures.value ∙ c.in-ok-words.ensures ∙ ap words_of text.0 in
-    let same : spelled (texts c.as-slice.result.now) ≡ asked line = ap spelled words ∙ sym (cond_true (ascii line) (spelled (words_of line)) None low) in
+    let same : spelled (texts c.as-slice.result.now) ≡ asked line = ap spelled words ∙ sym (cond-true (ascii line) (spelled (words_of line)) None low) in
     subst (λ (o : Option Ask). Reads ask_of o c.read-command.result) same c.read-command.ensures

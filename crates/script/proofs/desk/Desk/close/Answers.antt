@@ -7,8 +7,8 @@ use Rattle.engine.specs.declared.slip.Slip.{Slip}
 use Rattle.engine.specs.Seen.{engine_of, paper_of}
 
 -- the slip that is held is the one that is out
-pub returns_in_Some : goal.returns_in_Some
-returns_in_Some c =
+pub returns-in-Some : goal.returns-in-Some
+returns-in-Some c =
     let e = c.args.self.engine in
     let out : Option Slip → Type 0 = λ h. agrees (engine_of e).shared.out (paper_held h) ≡ true in
     let tied = subst out c.in-Some.is c.args.self.tied in

@@ -7,16 +7,16 @@ use Rattle.engine.specs.Models.{EngineModel}
 use Rattle.engine.specs.Seen.{engine_of, paper_of}
 
 -- what is out after the call is what its answer says
-pub invariant_of_self : goal.invariant_of_self
-invariant_of_self c =
+pub invariant-of-self : goal.invariant-of-self
+invariant-of-self c =
     let e = c.args.self.now.engine in
     let o = c.open-slip.ensures in
     let n = opened (scale_of e.scale) (meter_of e.meter) (engine_of e) c.args.holder c.args.from c.args.to c.open-slip.result o.answer in
     let x = ap (out_opened (engine_of e).shared.out) c.in-Ok.is in
     (agrees_by _ _ _ _ (ap (λ (m : EngineModel). m.shared.out) o.after ∙ n ∙ x) (ap paper_held c.replace.ensures.after) (agrees_self (Some (paper_of c.in-Ok.slip.numbers))), tt)
 
-pub invariant_of_self_in_Err· : goal.invariant_of_self_in_Err·
-invariant_of_self_in_Err· c =
+pub invariant-of-self-in-Err· : goal.invariant-of-self-in-Err·
+invariant-of-self-in-Err· c =
     let e = c.args.self.now.engine in
     let o = c.open-slip.ensures in
     let n = opened (scale_of e.scale) (meter_of e.meter) (engine_of e) c.args.holder c.args.from c.args.to c.open-slip.result o.answer in
