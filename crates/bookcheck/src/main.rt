@@ -1,4 +1,6 @@
 // The program that checks one rule book: its bytes come on standard input, and one line about it goes to standard output.
+#![tactic(auto)]
+
 ghost use Rattle.house.specs.Rulings.{ruling};
 ghost use Rattle.line.specs.Lines.{line};
 ghost use Rattle.std.specs.Prelude.{◌≡◌};

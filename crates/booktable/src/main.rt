@@ -1,5 +1,7 @@
 // The program that checks a table of books. Each line of standard input has a scale, a meter and the bytes of a book,
 // and gets one line on standard output: the verdict, or `error` if it cannot be read.
+#![tactic(auto)]
+
 mod choice;
 mod fault;
 mod row;

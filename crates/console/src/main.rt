@@ -1,5 +1,7 @@
 // The program that plays a script of calls: each line of standard input that is not passed over gets one line on
 // standard output, which says what became of it.
+#![tactic(auto)]
+
 use script::console::Console;
 use std::io;
 use std::io::{BufRead, BufReader};

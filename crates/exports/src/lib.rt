@@ -1,4 +1,6 @@
 // What C can call: the check of a book, and a script that is played from its first line to its last.
+#![tactic(auto)]
+
 ghost use Rattle.exports.specs.Answers.{CheckAnswered, ScriptAnswered};
 
 use house::rule;

@@ -1,4 +1,6 @@
 // The house's scale and meter, under which a book is checked if nothing else is chosen: a ladder of two ranks and a card of ones.
+#![tactic(auto)]
+
 ghost use Rattle.std.specs.Prelude.{◌≡◌, ◌<◌};
 ghost use Rattle.house.specs.Rulings.{ones, ruling, Settling};
 ghost use Rattle.meter.specs.Cards.{card};

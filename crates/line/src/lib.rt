@@ -1,4 +1,6 @@
 // The one line that a checking program prints about a rule book: `accepted EVENTS`, or `refused NUMBER LAYER PLACE`.
+#![tactic(auto)]
+
 ghost use Rattle.std.specs.Prelude.{◌≡◌, ◌≤◌};
 ghost use Rattle.line.specs.Drafts.{said, Sound};
 ghost use Rattle.line.specs.Lines.{layer_name, line, Readable, Written};

@@ -1,4 +1,6 @@
 // Meters, the cost models of a machine: the trait with its laws, the card and the digit meter.
+#![tactic(auto)]
+
 pub mod card;
 pub mod digit;
 pub mod meter;

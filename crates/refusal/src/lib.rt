@@ -1,5 +1,7 @@
 // Every refusal there is. Each layer has an enum of faults that says in its own words why it refuses, the maker's
 // here and the others in a module each; and each fault is a number, the layer that refuses and a place.
+#![tactic(auto)]
+
 pub mod check;
 pub mod engine;
 pub mod reader;

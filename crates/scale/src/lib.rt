@@ -1,4 +1,6 @@
 // Scales of security levels: the trait with its laws, the ladder and the departments.
+#![tactic(auto)]
+
 pub mod departments;
 pub mod ladder;
 pub mod scale;

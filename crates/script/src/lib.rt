@@ -1,4 +1,6 @@
 // Scripts of calls: what each line asks of an engine, and what it is answered.
+#![tactic(auto)]
+
 mod call;
 mod chosen;
 mod command;
