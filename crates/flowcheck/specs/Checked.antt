@@ -1,6 +1,6 @@
 -- What a check answered, as what the book says.
 use Rattle.reader.specs.Books.{said}
-use Rattle.reader.specs.declared.book.Book.{Book}
+use Rattle.reader.specs.declared.rulebook.Book.{Book}
 use Rattle.book.specs.Reads.{BookModel}
 use Rattle.refusal.specs.declared.check.CheckFault.{CheckFault}
 use Rattle.std.specs.Prelude.{Ok, Err, Result}

@@ -18,8 +18,8 @@ use crate::walk::Walk;
 use book::cursor::Cursor;
 use book::instruction::Instruction;
 use meter::meter::Meter;
-use reader::book::Book;
 use reader::reader::read;
+use reader::rulebook::Book;
 use refusal::check::CheckFault;
 use scale::scale::Scale;
 

@@ -11,7 +11,7 @@ ghost use Rattle.std.specs.Prelude.{◌≡◌, []};
 use book::codes::code_of;
 use book::instruction::Instruction;
 use meter::meter::Meter;
-use reader::book::Book;
+use reader::rulebook::Book;
 use refusal::check::CheckFault;
 use scale::scale::Scale;
 use stack::Stack;

@@ -5,7 +5,7 @@ ghost use Rattle.machine.specs.Jumps.{jumps_from};
 ghost use Rattle.std.specs.Prelude.{◌≡◌, true, length, take};
 
 use crate::event_starts::Starts;
-use reader::book::Book;
+use reader::rulebook::Book;
 
 #[derive(Clone, Copy)]
 pub struct Program {

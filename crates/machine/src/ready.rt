@@ -8,7 +8,7 @@ use crate::event_starts::Starts;
 use crate::jumps::{jump_at, step_back};
 use crate::program::Program;
 use book::instruction::Instruction;
-use reader::book::Book;
+use reader::rulebook::Book;
 use stack::Stack;
 
 // The jumps of all places, in the first places of the row: from the last place to the first, so that each end is met

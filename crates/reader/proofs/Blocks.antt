@@ -1,5 +1,5 @@
 -- The open blocks, kept on a stack of eight.
-use Rattle.std.proofs.Common.{◌≡◌, ℕ, ◌<◌, ◌≤◌, true, false, cond, ltb, List, [], ◌∷◌, length, arith}
+use Rattle.std.proofs.Common.{◌≡◌, ◌≤◌, true, false, ltb, List, [], ◌∷◌, length, arith}
 use Rattle.book.specs.declared.block.Block.{Block}
 use Rattle.book.specs.declared.block.Block.TheVariants.{FirstPart, SecondPart, Turns}
 use Rattle.book.specs.Reads.{in_first, outer}

@@ -1,5 +1,5 @@
 -- The steps of the search for a heavy event.
-use Rattle.std.proofs.Common.{◌≡◌, ℕ, ◌+◌, true, false, cond, ltb, List, [], ◌∷◌, Some, Option, ap, ◌∙◌}
+use Rattle.std.proofs.Common.{◌≡◌, ℕ, ◌+◌, true, false, cond, ltb, List, [], ◌∷◌, Some, Option, ◌∙◌}
 use Rattle.book.specs.declared.instruction.Instruction.{Instruction}
 use Rattle.book.specs.Reads.{is_stop}
 use Rattle.book.specs.Weighs.{capped, factor, factors_after, heaviest}

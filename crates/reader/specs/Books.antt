@@ -1,6 +1,6 @@
 -- What a book in memory says.
 use Rattle.std.specs.Prelude.{take, Ok, Err, Result}
-use Rattle.reader.specs.declared.book.Book.{Book}
+use Rattle.reader.specs.declared.rulebook.Book.{Book}
 use Rattle.refusal.specs.declared.reader.ReaderFault.{ReaderFault}
 use Rattle.book.specs.Reads.{BookModel}
 

@@ -2,10 +2,10 @@
 // It knows nothing of what a level or a charge means.
 #![tactic(auto)]
 
-pub mod book;
 mod decode;
 mod fields;
 mod parts;
 pub mod reader;
+pub mod rulebook;
 mod scan;
 mod weigh;

@@ -4,7 +4,7 @@ ghost use Rattle.std.specs.Prelude.{◌≡◌, ◌≤◌, length};
 ghost use Rattle.book.specs.Counts.{stops};
 ghost use Rattle.book.specs.Trees.{events as eventsOf};
 
-use crate::book::Book;
+use crate::rulebook::Book;
 use book::codes::is_stop;
 use book::instruction::Instruction;
 

@@ -5,9 +5,9 @@ ghost use Rattle.book.specs.Encodings.{ReaderLaw};
 ghost use Rattle.book.specs.Reads.{Placed, first_of, raws, read_body, read_code, reading, scan as scanned, sound};
 ghost use Rattle.stack.specs.Stacks.{held};
 
-use crate::book::Book;
 use crate::decode::decode;
 use crate::fields::{levels, long, starts, word};
+use crate::rulebook::Book;
 use crate::scan::Scan;
 use crate::weigh::closing_fault;
 use book::instruction::Instruction;

@@ -5,7 +5,7 @@ ghost use Rattle.steps.specs.Runs.{start_state};
 ghost use Rattle.steps.specs.Seen.{Laid, state_of};
 
 use crate::state::State;
-use reader::book::Book;
+use reader::rulebook::Book;
 
 // Amounts in the first places of a row.
 fn row_of(amounts: &[i32]) -> [i32; 32]

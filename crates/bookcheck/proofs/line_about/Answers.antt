@@ -15,7 +15,7 @@ pub returns : goal.returns
 returns c =
     let text = line c.rule.result in
     let room : 32 ≤ length c.args.buffer.now = search rules in
-    let made = c.write-line.ensures.written.long room in
-    let long = same_ok c.write-line.result c.unwrap-length.result (length text) c.unwrap-length.ensures made.0 in
-    first text (drop (length text) c.args.buffer.now) c.write-line.new.buffer c.unwrap-length.result long made.1
+    let made = c.write_line.ensures.written.long room in
+    let long = same_ok c.write_line.result c.unwrap-length.result (length text) c.unwrap-length.ensures made.0 in
+    first text (drop (length text) c.args.buffer.now) c.write_line.new.buffer c.unwrap-length.result long made.1
     ∙ ap line c.rule.ensures

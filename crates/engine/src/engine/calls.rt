@@ -13,7 +13,7 @@ use crate::slip::{Numbers, Refused, Slip, Tally};
 use flowcheck::checker::check;
 use machine::program::Program;
 use meter::meter::Meter;
-use reader::book::Book;
+use reader::rulebook::Book;
 use refusal::engine::EngineFault;
 use scale::scale::Scale;
 use steps::state::State;

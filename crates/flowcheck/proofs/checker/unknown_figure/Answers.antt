@@ -12,7 +12,7 @@ returns-then-not-known g c =
     let v = c.loop-figure.figure in
     let on = at_drop_more (unknown s (1 + v)) ls v 0 c.loop-figure-test.true in
     let no : s.known (get_or ls v 0) ≡ false = sym c.if-not-known.ensures in
-    ap (λ n. Some (Level n)) c.level-place.ensures ∙ sym (sym c.loop-figure.invariant ∙ on ∙ cond-false (s.known (get_or ls v 0)) (unknown s (1 + v + 1) (drop (v + 1) ls)) (Some (Level (1 + v))) no)
+    ap (λ n. Some (Level n)) c.level_place.ensures ∙ sym (sym c.loop-figure.invariant ∙ on ∙ cond-false (s.known (get_or ls v 0)) (unknown s (1 + v + 1) (drop (v + 1) ls)) (Some (Level (1 + v))) no)
 
 pub loop-figure-preserved : goal.loop-figure-preserved
 loop-figure-preserved g c =

@@ -4,14 +4,14 @@ use Rattle.machine.proofs.jumps.else_of.Goals as goal
 use Rattle.machine.proofs.jumps.else_of.Goals.{In-ok-other}
 use Rattle.machine.proofs.Within.{matching_within}
 
-at : (c : In-ok-other) → matching_else c.args.code.now c.args.place ≡ Some c.in-ok-other.other
-at c = ap (matching_else c.args.code.now) (sym c.new-cursor.ensures) ∙ sym c.in-ok-other.ensures.found
+at : (c : In-ok-other) → matching_else c.args.code.now c.args.place ≡ Some c.in_ok-other.other
+at c = ap (matching_else c.args.code.now) (sym c.new-cursor.ensures) ∙ sym c.in_ok-other.ensures.found
 
-within : (c : In-ok-other) → c.in-ok-other.other < length c.args.code.now
-within c = matching_within c.args.code.now c.args.place c.in-ok-other.other (omega arith) (at c)
+within : (c : In-ok-other) → c.in_ok-other.other < length c.args.code.now
+within c = matching_within c.args.code.now c.args.place c.in_ok-other.other (omega arith) (at c)
 
-pub overflow-cast-result : goal.overflow-cast-result
-overflow-cast-result c = let w = within c in search rules
+pub overflow_cast-result : goal.overflow_cast-result
+overflow_cast-result c = let w = within c in search rules
 
 pub returns : goal.returns
 returns c = let w = within (goal.at.returns c).In-ok-other in record { found = sym (at (goal.at.returns c).In-ok-other); within = omega (arith, w) }

@@ -14,6 +14,6 @@ loop-place-preserved c =
     let behind : l.place ≡ p + 1 = omega arith in
     let filled = subst (λ (k : ℕ). take (n - k) (drop k l.row) ≡ jumps_from code (n - k) k) behind l.invariant.2 in (
       search rules,
-      rw (drop_more code p Stop (omega arith)) (c.step-back.ensures (drop (p + 1) code) (search rules)),
-      row_less code l.row n p c.jump-at.result (omega arith) (omega arith) c.jump-at.ensures filled,
+      rw (drop_more code p Stop (omega arith)) (c.step_back.ensures (drop (p + 1) code) (search rules)),
+      row_less code l.row n p c.jump_at.result (omega arith) (omega arith) c.jump_at.ensures filled,
     )

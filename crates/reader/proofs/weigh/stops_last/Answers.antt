@@ -6,4 +6,4 @@ pub returns-then-code-eq0 : goal.returns-then-code-eq0
 returns-then-code-eq0 c = sym (stops_none c.args.code.now (omega arith))
 
 pub returns : goal.returns
-returns c = c.is-stop.ensures ∙ sym (stops_at c.args.code.now (omega arith))
+returns c = c.is_stop.ensures ∙ sym (stops_at c.args.code.now (omega arith))

@@ -31,7 +31,7 @@ loop-place-preserved c =
     let ws = c.args.words.now in
     let i = c.loop-place.place in
     let charges = c.loop-place.charges in
-    let n = c.in-ok-charges.field-0 in
+    let n = c.in_ok-charges.field-0 in
     let inv = c.loop-place.invariant in
     let within : i < length ws = omega arith in
     let room : i < length charges = omega arith in
@@ -39,7 +39,7 @@ loop-place-preserved c =
     let long : length (set charges i n) ≡ 12 = length-set charges i n ∙ inv.1 in (
       inv.0,
       long,
-      inv.2 ∙ ap (behind (take i charges)) (step ws i within ∙ ap (λ (o : Option ℕ). in_front o rest) c.in-ok-charges.ensures)
+      inv.2 ∙ ap (behind (take i charges)) (step ws i within ∙ ap (λ (o : Option ℕ). in_front o rest) c.in_ok-charges.ensures)
           ∙ behind_more (take i charges) n rest ∙ ap (λ (xs : List ℕ). behind xs rest) (sym (take_more_set charges i n room)),
     )
 
@@ -54,13 +54,13 @@ returns c =
     twelve ws inv.0 ∙ inv.2 ∙ ap (behind (take i charges)) (at_drop_all (λ (l : List (Bor (List ℕ))). each_natural (texts l)) ws i all)
     ∙ ap Some (append-nil (take i charges) ∙ take_all i charges full)
 
-pub returns-in-err-charges : goal.returns-in-err-charges
-returns-in-err-charges c =
+pub returns-in_err-charges : goal.returns-in_err-charges
+returns-in_err-charges c =
     let ws = c.args.words.now in
     let i = c.loop-place.place in
     let front = take i c.loop-place.charges in
     let inv = c.loop-place.invariant in
     let within : i < length ws = omega arith in
     let rest = each_natural (texts (drop (i + 1) ws)) in
-    reads_part (λ charges. charges) (charges_spelled (texts ws)) (λ n. n) (natural 32 (at ws i)) c.in-err-charges.field-0.0 c.from-residual.result c.from-residual.ensures.1 c.in-err-charges.ensures
+    reads_part (λ charges. charges) (charges_spelled (texts ws)) (λ n. n) (natural 32 (at ws i)) c.in_err-charges.field-0.0 c.from_residual.result c.from_residual.ensures.1 c.in_err-charges.ensures
     (λ none. twelve ws inv.0 ∙ inv.2 ∙ ap (behind front) (step ws i within ∙ ap (λ (o : Option ℕ). in_front o rest) none))

@@ -8,38 +8,38 @@ use Rattle.script.specs.declared.command.MeterChoice.TheVariants.{Card}
 use Rattle.script.specs.Words.{texts}
 use Rattle.std.specs.Option.{option_map}
 
-pub returns-in-err-read-charges : goal.returns-in-err-read-charges
-returns-in-err-read-charges c =
+pub returns-in_err-read_charges : goal.returns-in_err-read_charges
+returns-in_err-read_charges c =
     let ws = c.args.words.now in
     let some : 0 < length ws = elim c.in-card·.branch [ then-words-lt2+in-card· w ↦ omega (arith, ltb-true, ltb-false) | else-words-lt2+in-card· w ↦ omega (arith, ltb-true, ltb-false) ] in
     let is-card : at ws 0 ≡ codes "card" = elim c.in-card·.branch [ then-words-lt2+in-card· w ↦ search rules | else-words-lt2+in-card· w ↦ search rules ] in
-    reads_part (λ choice. choice) (meter_spelled (texts ws)) (λ charges. charges) (charges_spelled (texts (behind_first ws))) c.in-err-read-charges.field-0.0 c.from-residual.result c.from-residual.ensures.1 c.in-err-read-charges.ensures
+    reads_part (λ choice. choice) (meter_spelled (texts ws)) (λ charges. charges) (charges_spelled (texts (behind_first ws))) c.in_err-read_charges.field-0.0 c.from_residual.result c.from_residual.ensures.1 c.in_err-read_charges.ensures
     (λ none. meter_card ws some is-card ∙ ap (option_map Card) none)
 
-pub returns-in-ok-read-charges : goal.returns-in-ok-read-charges
-returns-in-ok-read-charges c =
+pub returns-in_ok-read_charges : goal.returns-in_ok-read_charges
+returns-in_ok-read_charges c =
     let ws = c.args.words.now in
     let some : 0 < length ws = elim c.in-card·.branch [ then-words-lt2+in-card· w ↦ omega (arith, ltb-true, ltb-false) | else-words-lt2+in-card· w ↦ omega (arith, ltb-true, ltb-false) ] in
     let is-card : at ws 0 ≡ codes "card" = elim c.in-card·.branch [ then-words-lt2+in-card· w ↦ search rules | else-words-lt2+in-card· w ↦ search rules ] in
-    meter_card ws some is-card ∙ ap (option_map Card) c.in-ok-read-charges.ensures
+    meter_card ws some is-card ∙ ap (option_map Card) c.in_ok-read_charges.ensures
 
 pub returns-in-digit : goal.returns-in-digit
 returns-in-digit c =
     let ws = c.args.words.now in
     ap meter_spelled (texts_1 ws (omega (arith, ltb-true, ltb-false))) ∙ ap (λ (v : List ℕ). meter_spelled (v ∷ [])) c.in-digit.is_digit
 
-pub returns-in-default : goal.returns-in-default
-returns-in-default c = meter_none c.args.words.now (omega (arith, ltb-true, ltb-false))
+pub returns-in_default : goal.returns-in_default
+returns-in_default c = meter_none c.args.words.now (omega (arith, ltb-true, ltb-false))
 
-pub returns-in-default·2 : goal.returns-in-default·2
-returns-in-default·2 c =
+pub returns-in_default·2 : goal.returns-in_default·2
+returns-in_default·2 c =
     let ws = c.args.words.now in
     let no-card : at ws 0 ≡ codes "card" → ⊥ = search rules in
     let no_digit : at ws 0 ≡ codes "digit" → ⊥ = search rules in
     meter_other ws (omega (arith, ltb-true, ltb-false)) no-card (inl no_digit)
 
-pub returns-in-default·3 : goal.returns-in-default·3
-returns-in-default·3 c =
+pub returns-in_default·3 : goal.returns-in_default·3
+returns-in_default·3 c =
     let ws = c.args.words.now in
     let no-card : at ws 0 ≡ codes "card" → ⊥ = search rules in
     meter_other ws (omega (arith, ltb-true, ltb-false)) no-card (inr (omega (arith, ltb-true, ltb-false)))

@@ -12,23 +12,23 @@ sent (Ok x) P none p = p
 sent (Err e) P none p = let z : ◌≡◌ {A = ℕ} 1 0 = ap (λ (b : Bool). cond b 1 0) none in absurd (omega arith)
 
 -- a reply is written behind the others
-pub loop-rest-preserved-else-is-err : goal.loop-rest-preserved-else-is-err
-loop-rest-preserved-else-is-err c =
+pub loop-rest-preserved-else-is_err : goal.loop-rest-preserved-else-is_err
+loop-rest-preserved-else-is_err c =
     let text = string_bytes c.loop-rest.transcript in
     let longer = string_bytes c.writeln.new.self in
     let reply = c.in-Some.reply in
-    let line : longer ≡ text ++ printed (Some reply) = sent c.writeln.result (longer ≡ text ++ printed (Some reply)) (sym c.if-is-err.ensures.value) c.writeln.ensures.bytes in
-    let grown : longer ≡ text ++ printed c.in-ok-reply.field-0 = line ∙ ap (λ (r : Option Reply). text ++ printed r) (sym c.in-Some.is) in
-    let said = c.in-ok-reply.ensures in
-    answers_more c.loop-rest.rest.now c.cut.result.0.now c.cut.result.1.now text longer (answers (console_of c.args.console.now) (lines_of c.args.script.now)) (console_of c.loop-rest.console) (console_of c.answer.new.self) c.in-ok-reply.field-0 c.loop-rest.invariant c.cut.ensures.lines said.0 said.1 grown
+    let line : longer ≡ text ++ printed (Some reply) = sent c.writeln.result (longer ≡ text ++ printed (Some reply)) (sym c.if-is_err.ensures.value) c.writeln.ensures.bytes in
+    let grown : longer ≡ text ++ printed c.in_ok-reply.field-0 = line ∙ ap (λ (r : Option Reply). text ++ printed r) (sym c.in-Some.is) in
+    let said = c.in_ok-reply.ensures in
+    answers_more c.loop-rest.rest.now c.cut.result.0.now c.cut.result.1.now text longer (answers (console_of c.args.console.now) (lines_of c.args.script.now)) (console_of c.loop-rest.console) (console_of c.answer.new.self) c.in_ok-reply.field-0 c.loop-rest.invariant c.cut.ensures.lines said.0 said.1 grown
 
 -- a remark adds nothing
 pub loop-rest-preserved : goal.loop-rest-preserved
 loop-rest-preserved c =
     let text = string_bytes c.loop-rest.transcript in
-    let grown : text ≡ text ++ printed c.in-ok-reply.field-0 = sym (ap (λ (r : Option Reply). text ++ printed r) c.in-default.is ∙ append-nil text) in
-    let said = c.in-ok-reply.ensures in
-    answers_more c.loop-rest.rest.now c.cut.result.0.now c.cut.result.1.now text text (answers (console_of c.args.console.now) (lines_of c.args.script.now)) (console_of c.loop-rest.console) (console_of c.answer.new.self) c.in-ok-reply.field-0 c.loop-rest.invariant c.cut.ensures.lines said.0 said.1 grown
+    let grown : text ≡ text ++ printed c.in_ok-reply.field-0 = sym (ap (λ (r : Option Reply). text ++ printed r) c.in_default.is ∙ append-nil text) in
+    let said = c.in_ok-reply.ensures in
+    answers_more c.loop-rest.rest.now c.cut.result.0.now c.cut.result.1.now text text (answers (console_of c.args.console.now) (lines_of c.args.script.now)) (console_of c.loop-rest.console) (console_of c.answer.new.self) c.in_ok-reply.field-0 c.loop-rest.invariant c.cut.ensures.lines said.0 said.1 grown
 
 -- no line is left
 pub returns : goal.returns

@@ -23,19 +23,19 @@ loop-digits-preserved c =
     let front = vec_items c.loop-digits.bytes in
     let piece = c.in-Some.digits.now in
     let rest = chunks_rest c.next.new.self in
-    let b = c.in-ok-ok-or.field-0 in
+    let b = c.in_ok-ok_or.field-0 in
     let long : length piece ≡ min 2 (length (piece ++ rest)) = step.1.1 ∙ ap (λ (n : ℕ). min n (length (chunks_rest it))) inv.2 ∙ ap (λ (xs : List ℕ). min 2 (length xs)) step.1.0 in
     let any : 0 < length (piece ++ rest) = omega (arith, step.1.2, ap length step.1.0) in
     let some : 0 < length piece = omega arith in
     let read : bytes_value word ≡ behind front (bytes_value (piece ++ rest)) = inv.3 ∙ ap (λ (xs : List ℕ). behind front (bytes_value xs)) step.1.0 in
-    let is : byte_value piece ≡ Some b = sym c.hex-byte.ensures ∙ c.in-ok-ok-or.ensures.ok-part in
+    let is : byte_value piece ≡ Some b = sym c.hex_byte.ensures ∙ c.in_ok-ok_or.ensures.ok-part in
     let size : chunks_size c.next.new.self ≡ 2 = step.0 ∙ inv.2 in
     let positive : 0 < chunks_size c.next.new.self = omega arith in
-    (tt, positive, size, read_more word front piece rest (byte_value piece) read some long refl b is ∙ ap (λ (xs : List ℕ). behind xs (bytes_value rest)) (sym c.in-ok-push.ensures.items))
+    (tt, positive, size, read_more word front piece rest (byte_value piece) read some long refl b is ∙ ap (λ (xs : List ℕ). behind xs (bytes_value rest)) (sym c.in_ok-push.ensures.items))
 
 -- two digits that are none
-pub returns-in-err-ok-or : goal.returns-in-err-ok-or
-returns-in-err-ok-or c =
+pub returns-in_err-ok_or : goal.returns-in_err-ok_or
+returns-in_err-ok_or c =
     let step = c.in-Some.ensures.steps in
     let inv = c.loop-digits.invariant in
     let it = c.loop-digits.digits-iterator in
@@ -47,7 +47,7 @@ returns-in-err-ok-or c =
     let any : 0 < length (piece ++ rest) = omega (arith, step.1.2, ap length step.1.0) in
     let some : 0 < length piece = omega arith in
     let read : bytes_value word ≡ behind front (bytes_value (piece ++ rest)) = inv.3 ∙ ap (λ (xs : List ℕ). behind front (bytes_value xs)) step.1.0 in
-    let is : byte_value piece ≡ None = sym c.hex-byte.ensures ∙ c.in-err-ok-or.ensures.ok-part in
+    let is : byte_value piece ≡ None = sym c.hex_byte.ensures ∙ c.in_err-ok_or.ensures.ok-part in
     let none = read_none word front piece rest (byte_value piece) read some long refl is in
     let same : c.args.text.now ≡ word = sym (ap chunks_rest c.into-iter-digits-iterator.ensures.into-iter-gives ∙ c.chunks-digits-items.ensures.rest) in
-    reads_none vec_items (bytes_value c.args.text.now) _ c.from-residual.result c.from-residual.ensures.1 (ap bytes_value same ∙ none)
+    reads_none vec_items (bytes_value c.args.text.now) _ c.from_residual.result c.from_residual.ensures.1 (ap bytes_value same ∙ none)

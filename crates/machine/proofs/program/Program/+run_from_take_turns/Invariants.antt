@@ -8,23 +8,23 @@ use Rattle.steps.specs.Machines.{perform}
 use Rattle.steps.specs.Runs.{exec, left, started, times}
 use Rattle.steps.specs.Seen.{machine_with, state_of}
 
-abbrev pub decreases-run-from : goal.decreases-run-from
-decreases-run-from g l = 2 * (length (said l.self.now.book).code - l.from)
+abbrev pub decreases-run_from : goal.decreases-run_from
+decreases-run_from g l = 2 * (length (said l.self.now.book).code - l.from)
 
-abbrev pub decreases-take-turns : goal.decreases-take-turns
-decreases-take-turns g l = 2 * (length (said l.self.now.book).code - l.from) + 1
+abbrev pub decreases-take_turns : goal.decreases-take_turns
+decreases-take_turns g l = 2 * (length (said l.self.now.book).code - l.from) + 1
 
-abbrev pub invariant-run-from-loop-place : goal.invariant-run-from-loop-place
-invariant-run-from-loop-place g l =
+abbrev pub invariant-run_from-loop-place : goal.invariant-run_from-loop-place
+invariant-run_from-loop-place g l =
     (l.from ≤ l.place)
     × (l.place ≤ length l.code)
     × (l.ifs ≤ l.place)
     × (through (g.M.Meter.meaning l.meter) l.ifs (parse (drop l.place (said l.self.book).code)) (machine_with l.machine l.row (state_of l.state).figures) ≡ exec (g.M.Meter.meaning l.meter) (here (parse (drop l.from (said l.self.book).code))) (started (state_of l.initial.state)))
 
-abbrev pub decreases-run-from-loop-place : goal.decreases-run-from-loop-place
-decreases-run-from-loop-place g l = length l.code - l.place
+abbrev pub decreases-run_from-loop-place : goal.decreases-run_from-loop-place
+decreases-run_from-loop-place g l = length l.code - l.place
 
-abbrev pub invariant-take-turns-loop : goal.invariant-take-turns-loop
-invariant-take-turns-loop g l =
+abbrev pub invariant-take_turns-loop : goal.invariant-take_turns-loop
+invariant-take_turns-loop g l =
     left (times (l.count - l.counter) (λ t. exec (g.M.Meter.meaning l.meter) (here (parse (drop l.from (said l.self.book).code))) (perform (g.M.Meter.meaning l.meter) (Repeat l.count) t)) (started (state_of l.state)))
     ≡ left (times l.count (λ t. exec (g.M.Meter.meaning l.meter) (here (parse (drop l.from (said l.self.book).code))) (perform (g.M.Meter.meaning l.meter) (Repeat l.count) t)) (started (state_of l.initial.state)))

@@ -5,29 +5,29 @@ use Rattle.machine.proofs.program.Program.run.Goals as goal
 use Rattle.steps.specs.Runs.{exec, left, started}
 use Rattle.steps.specs.Seen.{state_of}
 
-pub returns-in-default : goal.returns-in-default
-returns-in-default g c =
+pub returns-in_default : goal.returns-in_default
+returns-in_default g c =
     let b = c.args.self.now.book in
     record {
-      ran = (event_missing b.figures (said b).code b.formed c.args.event (sym c.start-of.ensures ∙ c.in-default.is), refl);
-      law = c.run-laws.ensures.law;
-      bound = c.run-laws.ensures.bound;
-      privacy = c.run-laws.ensures.privacy;
+      ran = (event_missing b.figures (said b).code b.formed c.args.event (sym c.start_of.ensures ∙ c.in_default.is), refl);
+      law = c.run_laws.ensures.law;
+      bound = c.run_laws.ensures.bound;
+      privacy = c.run_laws.ensures.privacy;
     }
 
-pub run-from-requires : goal.run-from-requires
-run-from-requires g c =
+pub run_from-requires : goal.run_from-requires
+run_from-requires g c =
     let b = c.args.self.now.book in
-    (event_found b.figures (said b).code b.formed c.args.event c.in-Some.start (sym c.start-of.ensures ∙ c.in-Some.is)).place
+    (event_found b.figures (said b).code b.formed c.args.event c.in-Some.start (sym c.start_of.ensures ∙ c.in-Some.is)).place
 
 pub returns : goal.returns
 returns g c =
     let b = c.args.self.now.book in
     let m = g.M.Meter.meaning c.args.meter.now in
-    let found = event_found b.figures (said b).code b.formed c.args.event c.in-Some.start (sym c.start-of.ensures ∙ c.in-Some.is) in
+    let found = event_found b.figures (said b).code b.formed c.args.event c.in-Some.start (sym c.start_of.ensures ∙ c.in-Some.is) in
     record {
-      ran = (found.within, c.run-from.ensures ∙ ap (λ e. left (exec m e (started (state_of c.args.state.now)))) found.stretch);
-      law = c.run-laws.ensures.law;
-      bound = c.run-laws.ensures.bound;
-      privacy = c.run-laws.ensures.privacy;
+      ran = (found.within, c.run_from.ensures ∙ ap (λ e. left (exec m e (started (state_of c.args.state.now)))) found.stretch);
+      law = c.run_laws.ensures.law;
+      bound = c.run_laws.ensures.bound;
+      privacy = c.run_laws.ensures.privacy;
     }

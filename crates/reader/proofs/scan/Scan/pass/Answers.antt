@@ -1,4 +1,4 @@
-use Rattle.std.proofs.Common.{refl, ap, ◌∙◌, arith, rules}
+use Rattle.std.proofs.Common.{rules}
 use Rattle.reader.proofs.Blocks.{replaced}
 use Rattle.reader.proofs.scan.Scan.pass.Goals as goal
 use Rattle.stack.proofs.Tops.{few}

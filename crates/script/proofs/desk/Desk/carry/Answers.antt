@@ -9,8 +9,8 @@ use Rattle.engine.specs.Models.{EngineModel, carry as carryCall}
 use Rattle.engine.specs.Seen.{engine_of, paper_of}
 
 -- a slip that was carried is neither out nor held
-pub invariant-of-self : goal.invariant-of-self
-invariant-of-self c =
+pub invariant_of-self : goal.invariant_of-self
+invariant_of-self c =
     let e = c.args.self.now.engine in
     let slip = c.present-slip.ensures in
     let same = ap (λ (n : Numbers). next (scale_of e.scale) (meter_of e.meter) (engine_of e) (carryCall (paper_of n))) slip.same in

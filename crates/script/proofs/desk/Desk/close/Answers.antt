@@ -12,4 +12,4 @@ returns-in-Some c =
     let e = c.args.self.engine in
     let out : Option Slip → Type 0 = λ h. agrees (engine_of e).shared.out (paper_held h) ≡ true in
     let tied = subst out c.in-Some.is c.args.self.tied in
-    c.withdraw-last.ensures ∙ settles (scale_of e.scale) (meter_of e.meter) (engine_of e) (paper_of c.in-Some.slip.numbers) tied
+    c.withdraw_last.ensures ∙ settles (scale_of e.scale) (meter_of e.meter) (engine_of e) (paper_of c.in-Some.slip.numbers) tied

@@ -7,18 +7,18 @@ use Rattle.engine.specs.Models.{EngineModel}
 use Rattle.engine.specs.Seen.{engine_of, paper_of}
 
 -- what is out after the call is what its answer says
-pub invariant-of-self : goal.invariant-of-self
-invariant-of-self c =
+pub invariant_of-self : goal.invariant_of-self
+invariant_of-self c =
     let e = c.args.self.now.engine in
-    let o = c.open-slip.ensures in
-    let n = opened (scale_of e.scale) (meter_of e.meter) (engine_of e) c.args.holder c.args.from c.args.to c.open-slip.result o.answer in
+    let o = c.open_slip.ensures in
+    let n = opened (scale_of e.scale) (meter_of e.meter) (engine_of e) c.args.holder c.args.from c.args.to c.open_slip.result o.answer in
     let x = ap (out_opened (engine_of e).shared.out) c.in-Ok.is in
     (agrees_by _ _ _ _ (ap (λ (m : EngineModel). m.shared.out) o.after ∙ n ∙ x) (ap paper_held c.replace.ensures.after) (agrees_self (Some (paper_of c.in-Ok.slip.numbers))), tt)
 
-pub invariant-of-self-in-Err· : goal.invariant-of-self-in-Err·
-invariant-of-self-in-Err· c =
+pub invariant_of-self-in-Err· : goal.invariant_of-self-in-Err·
+invariant_of-self-in-Err· c =
     let e = c.args.self.now.engine in
-    let o = c.open-slip.ensures in
-    let n = opened (scale_of e.scale) (meter_of e.meter) (engine_of e) c.args.holder c.args.from c.args.to c.open-slip.result o.answer in
+    let o = c.open_slip.ensures in
+    let n = opened (scale_of e.scale) (meter_of e.meter) (engine_of e) c.args.holder c.args.from c.args.to c.open_slip.result o.answer in
     let x = ap (out_opened (engine_of e).shared.out) c.in-Err.is in
     (agrees_by _ (paper_held c.args.self.now.held) _ (paper_held c.args.self.now.held) (ap (λ (m : EngineModel). m.shared.out) o.after ∙ n ∙ x) refl c.args.self.now.tied, tt)

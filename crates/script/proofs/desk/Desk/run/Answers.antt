@@ -6,8 +6,8 @@ use Rattle.script.specs.Held.{paper_held}
 use Rattle.engine.specs.Models.{EngineModel}
 use Rattle.engine.specs.Seen.{engine_of}
 
-pub invariant-of-self : goal.invariant-of-self
-invariant-of-self c =
+pub invariant_of-self : goal.invariant_of-self
+invariant_of-self c =
     let e = c.args.self.now.engine in
     let h = paper_held c.args.self.now.held in
     let kept = out_run (scale_of e.scale) (meter_of e.meter) (engine_of e) c.args.event in

@@ -1,5 +1,5 @@
 use Rattle.std.proofs.Common.{take}
-use Rattle.reader.proofs.book.Book.events_law.Goals as goal
+use Rattle.reader.proofs.rulebook.Book.events_law.Goals as goal
 use Rattle.book.proofs.Events.{stops_sound}
 
 pub returns : goal.returns
