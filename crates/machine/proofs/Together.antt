@@ -9,7 +9,7 @@ use Rattle.flowcheck.specs.Flows.{Flows, Paced, Even, ends, number, figure, cloc
 use Rattle.flowcheck.specs.Walks.{Setting, figure_level}
 use Rattle.machine.proofs.Agreeing.{none, agree_at, agree_rest, agree_set, agree_push}
 use Rattle.machine.proofs.Close.{Close, steps, charged, emptied_close, same_way, apart, turns_close}
-use Rattle.machine.proofs.Hidden.{confined, part_confined}
+use Rattle.machine.proofs.Secrets.{confined, part_confined}
 use Rattle.machine.proofs.Observing.{Sees, Hidden, Known, Sound, known_at, first_seen, second_seen}
 use Rattle.steps.specs.Amounts.{is_zero, operate as result}
 use Rattle.steps.specs.Machines.{Machine, amount_at, emptied, perform, reading}

@@ -10,7 +10,7 @@ loop-place-preserved c =
     let l = c.loop-place in
     let code = c.args.code.now in
     let kept = l.invariant.2 in
-    elim c.if_first.branch [
+    elim c.if-first.branch [
       | then-first w ↦
           let on = first_on l.places l.count l.place code (omega (arith, l.invariant.0, l.invariant.1)) (omega arith) in (
             search rules,
