@@ -26,7 +26,7 @@ returns-in_ok-read_charges c =
 pub returns-in-digit : goal.returns-in-digit
 returns-in-digit c =
     let ws = c.args.words.now in
-    ap meter_spelled (texts_1 ws (omega (arith, ltb-true, ltb-false))) ∙ ap (λ (v : List ℕ). meter_spelled (v ∷ [])) c.in-digit.is_digit
+    ap meter_spelled (texts_1 ws (omega (arith, ltb-true, ltb-false))) ∙ ap (λ (v : List ℕ). meter_spelled (v ∷ [])) c.in-digit.is-digit
 
 pub returns-in_default : goal.returns-in_default
 returns-in_default c = meter_none c.args.words.now (omega (arith, ltb-true, ltb-false))

@@ -11,4 +11,4 @@ invariant_of-self c =
     let e = c.args.self.now.engine in
     let h = paper_held c.args.self.now.held in
     let kept = out_put (scale_of e.scale) (meter_of e.meter) (engine_of e) c.args.figure (to_z w32 (of_z w32 c.args.amount)) in
-    (agrees_by _ h _ h (ap (λ (m : EngineModel). m.shared.out) c.put.ensures.after ∙ kept) refl c.args.self.now.tied, tt)
+    record { tied = agrees_by _ h _ h (ap (λ (m : EngineModel). m.shared.out) c.put.ensures.after ∙ kept) refl c.args.self.now.tied }

@@ -15,4 +15,4 @@ invariant_of-self c =
     let slip = c.present-slip.ensures in
     let same = ap (λ (n : Numbers). next (scale_of e.scale) (meter_of e.meter) (engine_of e) (withdrawCall (paper_of n))) slip.same in
     let end = ends (scale_of e.scale) (meter_of e.meter) (engine_of e) (paper_of c.args.numbers) (paper_held c.args.self.now.held) c.args.self.now.tied in
-    (agrees_by _ _ _ _ (ap (λ (m : EngineModel). m.shared.out) (c.withdraw.ensures.after ∙ same)) slip.left end.withdrawn, tt)
+    record { tied = agrees_by _ _ _ _ (ap (λ (m : EngineModel). m.shared.out) (c.withdraw.ensures.after ∙ same)) slip.left end.withdrawn }
