@@ -11,7 +11,7 @@ loop-digits-init c =
     let it = c.into_iter-digits-iterator.result in
     let size : chunks_size it ≡ 2 = ap chunks_size c.into_iter-digits-iterator.ensures.into_iter_gives ∙ c.chunks-digits-items.ensures.size in
     let positive : 0 < chunks_size it = omega arith in
-    (tt, positive, size, sym (ap (λ (xs : List ℕ). behind xs (bytes_value (chunks_rest it))) c.new-bytes.ensures.items ∙ behind_nothing (bytes_value (chunks_rest it))))
+    (positive, tt, size, sym (ap (λ (xs : List ℕ). behind xs (bytes_value (chunks_rest it))) c.new-bytes.ensures.items ∙ behind_nothing (bytes_value (chunks_rest it))))
 
 -- one byte more
 pub loop-digits-preserved : goal.loop-digits-preserved
@@ -31,7 +31,7 @@ loop-digits-preserved c =
     let is : byte_value piece ≡ Some b = sym c.hex_byte.ensures ∙ c.in_ok-ok_or.ensures.ok_part in
     let size : chunks_size c.next.new.self ≡ 2 = step.0 ∙ inv.2 in
     let positive : 0 < chunks_size c.next.new.self = omega arith in
-    (tt, positive, size, read_more word front piece rest (byte_value piece) read some long refl b is ∙ ap (λ (xs : List ℕ). behind xs (bytes_value rest)) (sym c.in_ok-push.ensures.items))
+    (positive, tt, size, read_more word front piece rest (byte_value piece) read some long refl b is ∙ ap (λ (xs : List ℕ). behind xs (bytes_value rest)) (sym c.in_ok-push.ensures.items))
 
 -- two digits that are none
 pub returns-in_err-ok_or : goal.returns-in_err-ok_or

@@ -15,10 +15,10 @@ invariant_of-self c =
     let x = ap (out_opened (engine_of e).shared.out) c.in-Ok.is in
     record { tied = agrees_by _ _ _ _ (ap (λ (m : EngineModel). m.shared.out) o.after ∙ n ∙ x) (ap paper_held c.replace.ensures.after) (agrees_self (Some (paper_of c.in-Ok.slip.numbers))) }
 
-pub invariant_of-self-in-Err· : goal.invariant_of-self-in-Err·
-invariant_of-self-in-Err· c =
+pub invariant_of-self-in-Err-1 : goal.invariant_of-self-in-Err-1
+invariant_of-self-in-Err-1 c =
     let e = c.args.self.now.engine in
     let o = c.open_slip.ensures in
     let n = opened (scale_of e.scale) (meter_of e.meter) (engine_of e) c.args.holder c.args.from c.args.to c.open_slip.result o.answer in
     let x = ap (out_opened (engine_of e).shared.out) c.in-Err.is in
-    (agrees_by _ (paper_held c.args.self.now.held) _ (paper_held c.args.self.now.held) (ap (λ (m : EngineModel). m.shared.out) o.after ∙ n ∙ x) refl c.args.self.now.tied, tt)
+    record { tied = agrees_by _ (paper_held c.args.self.now.held) _ (paper_held c.args.self.now.held) (ap (λ (m : EngineModel). m.shared.out) o.after ∙ n ∙ x) refl c.args.self.now.tied }
