@@ -1,9 +1,9 @@
 -- Code of events has as many stops as events.
-use Rattle.std.proofs.Common.{◌≡◌, ℕ, suc, ◌+◌, true, false, List, [], ◌∷◌, ◌++◌, length, sym, refl, ap, ◌∙◌, arith}
+use Rattle.std.proofs.Common.{◌≡◌, ℕ, suc, ◌+◌, true, List, [], ◌∷◌, ◌++◌, length, sym, refl, ap, ◌∙◌, arith}
 use Rattle.book.proofs.Sounds.{sound_spoken}
 use Rattle.book.specs.Counts.{stops}
 use Rattle.book.specs.declared.instruction.Instruction.{Instruction}
-use Rattle.book.specs.declared.instruction.Instruction.TheVariants.{Stop, If, Else, End, Repeat}
+use Rattle.book.specs.declared.instruction.Instruction.TheVariants.{Stop, Else, End}
 use Rattle.book.specs.Forms.{Formed, ends, number, figure, clock, operate, store, wait, one_part, two_parts, turns}
 use Rattle.book.specs.Reads.{sound}
 use Rattle.book.specs.Trees.{Code, flat, whole, events}

@@ -3,7 +3,7 @@ use Rattle.std.proofs.Common.{◌≡◌, ℕ, suc, ◌-◌, ◌<◌, Bool, true,
 use Rattle.book.proofs.Shapes.{scanned_events}
 use Rattle.book.proofs.Weights.{heaviest_heavy}
 use Rattle.refusal.specs.declared.reader.ReaderFault.{ReaderFault}
-use Rattle.refusal.specs.declared.reader.ReaderFault.TheVariants.{Nesting, Weight}
+use Rattle.refusal.specs.declared.reader.ReaderFault.TheVariants.{Nesting}
 use Rattle.book.specs.declared.instruction.Instruction.{Instruction}
 use Rattle.book.specs.declared.instruction.Instruction.TheVariants.{Stop}
 use Rattle.book.specs.Reads.{Raw, finished, heavy, is_stop, light, scan, stops_last}

@@ -1,11 +1,11 @@
 -- Weighing a stretch one instruction after the other comes to its weight, up to the first weight above the limit.
-use Rattle.std.proofs.Common.{◌≡◌, ℕ, suc, ◌+◌, ◌*◌, ◌<◌, ◌≤◌, min, max, true, false, cond, ltb, List, [], ◌∷◌, ◌++◌, length, Some, None, Option, sym, refl, ap, ◌∙◌, ⊎_elim, mul-le-mul_left, mul-one, arith}
+use Rattle.std.proofs.Common.{◌≡◌, ℕ, suc, ◌+◌, ◌*◌, ◌<◌, ◌≤◌, max, cond, ltb, List, [], ◌∷◌, ◌++◌, length, Some, refl, ap, ◌∙◌, ⊎_elim, mul-le-mul_left, mul-one, arith}
 use Rattle.book.specs.declared.instruction.Instruction.{Instruction}
-use Rattle.book.specs.declared.instruction.Instruction.TheVariants.{Stop, If, Else, End, Repeat}
+use Rattle.book.specs.declared.instruction.Instruction.TheVariants.{Stop, Else, End}
 use Rattle.book.specs.Forms.{Formed, ends, number, figure, clock, operate, store, wait, one_part, two_parts, turns}
 use Rattle.book.specs.Reads.{heavy}
-use Rattle.book.specs.Trees.{Code, done, plain, branch, loop, flat, whole, weight, event_weight}
-use Rattle.book.specs.Weighs.{capped, factor, factors_after, heaviest}
+use Rattle.book.specs.Trees.{Code, flat, whole, weight}
+use Rattle.book.specs.Weighs.{capped, factor, heaviest}
 use Rattle.stack.specs.Stacks.{pushed}
 use Rattle.std.proofs.lemmas.List.{append_assoc, length-append}
 use Rattle.std.proofs.lemmas.Bool.{cond-true, lt-ltb, cases_lt}

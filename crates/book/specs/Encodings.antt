@@ -1,9 +1,8 @@
 -- The bytes of a book, what a well-formed book is, and what reading promises of both.
-use Rattle.std.specs.Prelude.{◌≡◌, ℕ, ◌/◌, ◌%◌, ◌<◌, ◌≤◌, List, [], ◌∷◌, ◌++◌, map, length, ℤ, Ok, Err, Result, FitsSigned}
+use Rattle.std.specs.Prelude.{◌≡◌, ℕ, ◌/◌, ◌%◌, ◌<◌, ◌≤◌, List, [], ◌∷◌, ◌++◌, map, length, ℤ, Ok, FitsSigned}
 use Rattle.std.specs.Int.{w32}
 use Rattle.std.proofs.Common.{of_z}
 use Rattle.book.specs.Codes.{code_of, argument_of}
-use Rattle.refusal.specs.declared.reader.ReaderFault.{ReaderFault}
 use Rattle.book.specs.declared.instruction.Instruction.{Instruction}
 use Rattle.book.specs.Forms.{Formed}
 use Rattle.book.specs.Reads.{BookModel, reading}

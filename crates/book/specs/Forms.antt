@@ -1,7 +1,6 @@
 -- What a well-formed stretch of code is, as rules in the manner of typing rules.
-use Rattle.std.specs.Prelude.{ℕ, suc, ◌<◌, ◌≤◌, Bool, true, false, ℤ}
-use Rattle.book.specs.declared.instruction.Instruction.{Instruction}
-use Rattle.book.specs.declared.instruction.Instruction.TheVariants.{Stop, Number, Figure, Clock, Operate, Store, If, Repeat, Wait, Else, End}
+use Rattle.std.specs.Prelude.{ℕ, suc, ◌<◌, ◌≤◌, true, false, ℤ}
+use Rattle.book.specs.declared.instruction.Instruction.TheVariants.{Number, Figure, Clock, Operate, Store, Wait}
 use Rattle.book.specs.declared.instruction.Operation.{Operation}
 use Rattle.book.specs.Trees.{Code, done, plain, branch, loop}
 

@@ -1,5 +1,5 @@
 -- Bytes as hexadecimal digits.
-use Rattle.std.specs.Prelude.{ℕ, ◌+◌, ◌-◌, ◌*◌, cond, ◌&&◌, Some, None, Option, nat_le}
+use Rattle.std.specs.Prelude.{ℕ, ◌-◌, cond, ◌&&◌, Some, None, Option, nat_le}
 
 -- The value of a character: 0 to 9, a to f or A to F.
 abbrev pub digit_value : ℕ → Option ℕ

@@ -1,11 +1,11 @@
 -- What an accepted call answers and leaves, and lists of calls.
-use Rattle.std.specs.Prelude.{ℕ, ◌+◌, List, [], ◌∷◌, length, set, ℤ, pos, Some, None, Ok, Err, Option, Result, slice_index_or, slice_set}
+use Rattle.std.specs.Prelude.{ℕ, ◌+◌, List, [], ◌∷◌, length, ℤ, pos, Some, None, Ok, Err, Option, Result, slice_index_or, slice_set}
 use Rattle.book.specs.Reads.{BookModel}
 use Rattle.book.specs.Trees.{done, events}
 use Rattle.flowcheck.specs.Checks.{checking_bytes}
 use Rattle.refusal.specs.declared.check.CheckFault.{CheckFault}
 use Rattle.refusal.specs.declared.engine.EngineFault.{EngineFault}
-use Rattle.engine.specs.Models.{Answer, refused, loaded, accepted, amount, time, slip, counts, Call, load, put, run, show, clock, open_slip, carry, withdraw, tally, EngineModel, Paper, Public, fresh, refusal}
+use Rattle.engine.specs.Models.{Answer, refused, loaded, accepted, amount, time, slip, counts, Call, load, put, run, show, clock, open_slip, carry, withdraw, tally, EngineModel, Paper, Public, refusal}
 use Rattle.steps.specs.Runs.{start_state}
 use Rattle.steps.specs.Runs.{State, run_event}
 use Rattle.meter.specs.Meters.{MeterModel}

@@ -1,6 +1,6 @@
 -- What an engine holds, which calls there are, and what each answers and leaves. What is public (the book, the slip that is
 -- out, the counts) is apart from what is not (the amounts and the clock): whether a call is accepted hangs on the public part alone.
-use Rattle.std.specs.Prelude.{ℕ, Bool, true, false, cond, not, ◌&&◌, List, [], ◌∷◌, length, ℤ, Some, None, Ok, Err, Option, Result, ◌==◌, nat_lt, slice_index}
+use Rattle.std.specs.Prelude.{ℕ, Bool, cond, not, ◌&&◌, List, [], length, ℤ, Some, None, Ok, Err, Option, Result, ◌==◌, nat_lt, slice_index}
 use Rattle.book.specs.Reads.{BookModel}
 use Rattle.book.specs.Trees.{events}
 use Rattle.flowcheck.specs.Checks.{checking_bytes}

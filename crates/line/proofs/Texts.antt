@@ -1,6 +1,6 @@
 -- A text that is put before another, in an array.
-use Rattle.std.proofs.Common.{◌≡◌, ℕ, ◌+◌, ◌-◌, ◌≤◌, List, ◌++◌, length, take, drop, sym, refl, ap, ◌∙◌, arith}
-use Rattle.std.proofs.lemmas.List.{append-nil, drop_at, drop-drop, length-append, length-drop, length-take-le, take_all}
+use Rattle.std.proofs.Common.{◌≡◌, ℕ, ◌+◌, ◌≤◌, List, ◌++◌, length, take, drop, sym, ap, ◌∙◌, arith}
+use Rattle.std.proofs.lemmas.List.{drop_at, drop-drop, length-append, length-drop, length-take-le}
 use borrow.Rule.Slice.PartMut.{put_mid}
 
 module _ (bytes text new : List ℕ) (from size start : ℕ) (same : new ≡ text) (fits : size ≡ length text) (reaches : from + size ≡ start) (within : start ≤ length bytes) where

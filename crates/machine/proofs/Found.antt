@@ -1,5 +1,5 @@
 -- The event that was looked for in sound code.
-use Rattle.std.proofs.Common.{◌≡◌, ℕ, zero, suc, ◌+◌, ◌<◌, ◌≤◌, true, List, [], ◌∷◌, length, get_or, take, drop, Some, None, sym, refl, ap, ◌∙◌, subst, ⊎_elim, arith}
+use Rattle.std.proofs.Common.{◌≡◌, ℕ, zero, suc, ◌+◌, ◌<◌, ◌≤◌, true, List, [], ◌∷◌, length, get_or, take, drop, Some, None, sym, ap, ◌∙◌, subst, ⊎_elim, arith}
 use Rattle.book.proofs.Outcomes.{none_some, some_none, some_same}
 use Rattle.book.proofs.Sounds.{sound_spoken}
 use Rattle.book.specs.declared.instruction.Instruction.{Instruction}

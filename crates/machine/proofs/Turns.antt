@@ -1,5 +1,5 @@
 -- One turn of a repeat.
-use Rattle.std.proofs.Common.{◌≡◌, ℕ, zero, suc, ◌+◌, ◌-◌, ◌<◌, refl, ap, ◌∙◌, arith}
+use Rattle.std.proofs.Common.{◌≡◌, ℕ, zero, suc, ◌+◌, ◌-◌, ◌<◌, refl, ap, arith}
 use Rattle.book.specs.declared.instruction.Instruction.TheVariants.{Repeat}
 use Rattle.book.specs.Trees.{Code}
 use Rattle.meter.specs.Meters.{MeterModel}

@@ -1,11 +1,10 @@
 -- A look ahead for an else answers a place of the code.
-use Rattle.std.proofs.Common.{◌≡◌, ℕ, ◌+◌, ◌-◌, ◌<◌, ◌≤◌, true, false, cond, ◌&&◌, eqb, List, [], ◌∷◌, length, drop, Some, None, arith}
+use Rattle.std.proofs.Common.{◌≡◌, ℕ, ◌+◌, ◌-◌, ◌<◌, eqb, List, [], ◌∷◌, length, drop, Some, None, arith}
 use Rattle.book.proofs.Outcomes.{by_test, none_some, some_same}
 use Rattle.book.specs.declared.instruction.Instruction.{Instruction}
 use Rattle.book.specs.declared.instruction.Instruction.TheVariants.{Stop, Number, Figure, Clock, Operate, Store, If, Repeat, Wait, Else, End}
-use Rattle.book.specs.Looks.{is_if, matching_else, seek}
+use Rattle.book.specs.Looks.{matching_else, seek}
 use Rattle.std.proofs.lemmas.List.{length-drop}
-use Rattle.std.proofs.lemmas.Bool.{and_parts, ltb-true}
 
 -- by induction on the list: each step goes one place on
 pub seek_within : (d p : ℕ) (is : List Instruction) (e : ℕ) → seek d p is ≡ Some e → e < p + length is

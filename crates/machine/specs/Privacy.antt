@@ -1,8 +1,8 @@
 -- What an observer cannot learn from one run.
-use Rattle.std.specs.Prelude.{◌≡◌, ℕ, ◌<◌, true, List, length, ℤ, pos, None, slice_index, slice_index_or}
+use Rattle.std.specs.Prelude.{◌≡◌, ℕ, ◌<◌, true, length, pos, None, slice_index, slice_index_or}
 use Rattle.book.specs.Encodings.{WellFormed}
 use Rattle.book.specs.Reads.{BookModel}
-use Rattle.book.specs.Trees.{Code, done, events}
+use Rattle.book.specs.Trees.{done, events}
 use Rattle.flowcheck.specs.Checks.{checking}
 use Rattle.steps.specs.Runs.{State, run_event}
 use Rattle.meter.specs.Meters.{MeterModel}

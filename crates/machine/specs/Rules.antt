@@ -2,7 +2,7 @@
 -- there, a pushed one has room, and a figure is one of the book's.
 use Rattle.std.specs.Prelude.{◌≡◌, ℕ, suc, ◌<◌, Bool, true, false, List, [], ◌∷◌, length, ℤ, pos, slice_index_or, slice_set}
 use Rattle.book.specs.Codes.{code_of}
-use Rattle.book.specs.declared.instruction.Instruction.TheVariants.{Number, Figure, Clock, Operate, Store, If, Repeat, Wait}
+use Rattle.book.specs.declared.instruction.Instruction.TheVariants.{Number, Figure, Clock, Operate, Store, Wait}
 use Rattle.book.specs.declared.instruction.Operation.{Operation}
 use Rattle.book.specs.Trees.{Code, done, plain, branch, loop}
 use Rattle.steps.specs.Amounts.{is_zero, operate}

@@ -1,5 +1,5 @@
 -- What the calls on a card leave and answer.
-use Rattle.std.specs.Prelude.{◌≡◌, ℕ, ◌<◌, ◌≤◌, List, length, Ok, Err, Result, slice_index}
+use Rattle.std.specs.Prelude.{◌≡◌, ℕ, ◌<◌, ◌≤◌, List, Ok, Err, Result, slice_index}
 use Rattle.refusal.specs.declared.MakerFault.{MakerFault}
 use Rattle.refusal.specs.declared.MakerFault.TheVariants.{Charge}
 use Rattle.meter.specs.declared.card.Card.{Card}

@@ -1,11 +1,11 @@
 -- Sets of departments as codes: inclusion department by department, and its laws.
-use Rattle.std.proofs.Common.{◌≡◌, ℕ, zero, suc, ◌+◌, ◌*◌, ◌/◌, ◌%◌, ◌^◌, ◌<◌, ◌≤◌, max, Bool, true, false, cond, not, ◌&&◌, ◌||◌, eqb, ltb, ◌⊎◌, Decides, sym, refl, ap, ◌∙◌, inl, inr, ⊎_elim, pow-suc, div-one, add-one, arith}
+use Rattle.std.proofs.Common.{◌≡◌, ℕ, zero, suc, ◌+◌, ◌*◌, ◌/◌, ◌%◌, ◌^◌, ◌<◌, max, Bool, true, false, not, ◌&&◌, ◌||◌, eqb, ltb, Decides, sym, refl, ap, ◌∙◌, ⊎_elim, pow-suc, div-one, add-one, arith}
 use native.Mathlib.Nat.{zero-div}
 use lib.Bits.{bit_or, or_step}
 use Rattle.std.proofs.lemmas.Nat.{or_lt, or_shr, shr-shr, pow_pos}
 use Rattle.std.proofs.lemmas.Bool.{cases_Bool, cond-true, cond-false, and_parts, and_from, and_left, and_right, or_left, or_right, or_cases, ltb-true, lt-ltb, eqb-true, true≢false}
 use Rattle.std.proofs.lemmas.Bool.Decides.{Decides-below_and, nat_tests}
-use Rattle.scale.specs.Scales.{ScaleModel, Lawful}
+use Rattle.scale.specs.Scales.{Lawful}
 use Rattle.scale.specs.Sets.{has, within, departments}
 
 -- one department: if it is in the first set it is in the second

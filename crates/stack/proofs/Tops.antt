@@ -1,5 +1,5 @@
 -- A list kept in the first n places of an array, the last one first.
-use Rattle.std.proofs.Common.{◌≡◌, ℕ, ◌+◌, ◌-◌, ◌<◌, ◌≤◌, List, [], ◌∷◌, ◌++◌, reverse, length, get_or, take, set, Some, None, sym, refl, ap, ◌∙◌, arith}
+use Rattle.std.proofs.Common.{◌≡◌, ℕ, ◌+◌, ◌-◌, ◌<◌, ◌≤◌, List, [], ◌∷◌, reverse, length, get_or, take, set, Some, None, sym, refl, ap, ◌∙◌, arith}
 use Rattle.stack.specs.declared.eight.Stack.{Stack}
 use Rattle.stack.specs.Stacks.{first, held, rest}
 use Rattle.std.proofs.lemmas.List.{length-reverse, length-take-le, take_more, take_more_set, reverse-append}

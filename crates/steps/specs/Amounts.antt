@@ -1,5 +1,5 @@
 -- Amounts are signed 32-bit numbers; operations on them stay at the nearer end of that range.
-use Rattle.std.specs.Prelude.{ℕ, zero, suc, min, Bool, true, false, not, ◌&&◌, ℤ, pos, negsuc, ◌+ℤ◌, ◌-ℤ◌, ◌*ℤ◌, int_div, int_lt}
+use Rattle.std.specs.Prelude.{zero, suc, min, Bool, true, false, not, ◌&&◌, ℤ, pos, negsuc, ◌+ℤ◌, ◌-ℤ◌, ◌*ℤ◌, int_div, int_lt}
 use Rattle.book.specs.declared.instruction.Operation.{Operation}
 use Rattle.book.specs.declared.instruction.Operation.TheVariants.{Add, Subtract, Multiply, Divide, Less, Equal}
 

@@ -1,6 +1,6 @@
 -- The machine that runs an event: the amounts on the stack, the figures' amounts and the clock. Every definition is
 -- total: a missing amount is 0 and a ninth one is not pushed. That a book that was read never comes to such a case is proved.
-use Rattle.std.specs.Prelude.{ℕ, ◌+◌, min, List, [], ◌∷◌, ℤ, pos, slice_index_or, slice_set}
+use Rattle.std.specs.Prelude.{ℕ, ◌+◌, min, List, [], ℤ, pos, slice_index_or, slice_set}
 use Rattle.book.specs.Codes.{code_of}
 use Rattle.book.specs.declared.instruction.Instruction.{Instruction}
 use Rattle.book.specs.declared.instruction.Instruction.TheVariants.{Stop, Number, Figure, Clock, Operate, Store, If, Repeat, Wait, Else, End}

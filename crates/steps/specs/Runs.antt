@@ -1,5 +1,5 @@
 -- What a run does, by recursion over the tree of an event.
-use Rattle.std.specs.Prelude.{ℕ, zero, suc, cond, List, [], length, get_or, ℤ}
+use Rattle.std.specs.Prelude.{ℕ, zero, suc, cond, List, [], ℤ}
 use Rattle.book.specs.declared.instruction.Instruction.TheVariants.{If, Repeat}
 use Rattle.book.specs.Reads.{BookModel}
 use Rattle.book.specs.Trees.{Code, done, plain, branch, loop}

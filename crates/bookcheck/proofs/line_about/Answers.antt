@@ -1,4 +1,4 @@
-use Rattle.std.proofs.Common.{◌≡◌, ℕ, ◌-◌, ◌≤◌, List, ◌++◌, length, drop, Ok, Result, sym, ap, ◌∙◌, arith, rules}
+use Rattle.std.proofs.Common.{◌≡◌, ℕ, ◌-◌, ◌≤◌, List, ◌++◌, length, drop, Ok, Result, ap, ◌∙◌, arith, rules}
 use borrow.Rule.Slice.PartMut.{mid_of}
 use Rattle.bookcheck.proofs.line_about.Goals as goal
 use Rattle.line.specs.Lines.{line}

@@ -1,4 +1,4 @@
-use Rattle.std.proofs.Common.{◌≡◌, ◌+◌, true, false, cond, get_or, drop, Some, sym, ap, ◌∙◌, arith}
+use Rattle.std.proofs.Common.{◌≡◌, ◌+◌, true, false, get_or, drop, Some, sym, ap, ◌∙◌, arith}
 use Rattle.flowcheck.proofs.checker.unknown_figure.Goals as goal
 use Rattle.flowcheck.specs.Checks.{unknown}
 use Rattle.refusal.specs.declared.check.CheckFault.TheVariants.{Level}

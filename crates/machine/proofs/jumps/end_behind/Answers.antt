@@ -1,4 +1,4 @@
-use Rattle.std.proofs.Common.{◌≡◌, ◌+◌, get_or, drop, sym, refl, ap, ◌∙◌, arith}
+use Rattle.std.proofs.Common.{◌+◌, get_or, drop, sym, ap, ◌∙◌, arith}
 use Rattle.book.specs.declared.instruction.Instruction.TheVariants.{Stop}
 use Rattle.machine.proofs.jumps.end_behind.Goals as goal
 use Rattle.machine.specs.Jumps.{end_from, opened}

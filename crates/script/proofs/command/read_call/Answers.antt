@@ -1,16 +1,7 @@
-use Rattle.std.proofs.Common.{◌≡◌, ℕ, List, ℤ, Some, vec_items, codes, Option, sym, ap, ◌∙◌, arith, w32, to_z, of_z, rules, ltb-false, ltb-true}
-use Rattle.engine.specs.Models.{Call, load, put, run, show, clock, open_slip, carry, withdraw}
-use Rattle.engine.specs.Seen.{paper_of}
+use Rattle.std.proofs.Common.{◌≡◌, codes, arith, rules, ltb-false, ltb-true}
 use Rattle.script.proofs.command.read_call.Goals as goal
 use Rattle.script.proofs.command.read_call.Goals.{in_default-via-then-words-lt1, in_default-via-else-words-lt1+then-words-lt2+in_default, in_default-via-else-words-lt1+else-words-lt2+then-words-lt3+in_default, in_default-via-else-words-lt1+else-words-lt2+else-words-lt3+then-words-lt4+in_default, in_default-via-else-words-lt1+else-words-lt2+else-words-lt3+else-words-lt4+then-words-lt5+in_default, in_default-via-else-words-lt1+else-words-lt2+else-words-lt3+else-words-lt4+else-words-lt5+then-words-lt6+in_default, in_default-via-else-words-lt1+else-words-lt2+else-words-lt3+else-words-lt4+else-words-lt5+else-words-lt6}
-use Rattle.script.proofs.Readings.{reads_part}
-use Rattle.script.proofs.Spellings.{at, call_carry, call_clock, call_load, call_load_none, call_many, call_none, call_open, call_other_1, call_other_2, call_other_3, call_other_4, call_other_5, call_put, call_run, call_show, call_tally, call_withdraw, given_none}
-use Rattle.script.specs.Asked.{call_spelled, given, slip_spelled}
-use Rattle.script.specs.Calls.{call_of}
-use Rattle.script.specs.Hex.{bytes}
-use Rattle.script.specs.Words.{integer, natural, texts}
-use Rattle.std.specs.declared.alloc.Global.{Global}
-use Rattle.std.specs.Option.{option_map}
+use Rattle.script.proofs.Spellings.{at, call_many, call_none, call_other_1, call_other_2, call_other_3, call_other_4, call_other_5}
 
 pub returns-in_default : goal.returns-in_default
 returns-in_default c =

@@ -2,8 +2,8 @@ use Rattle.std.proofs.Common.{◌≡◌, ◌<◌, ◌⊎◌, length, codes, ap, 
 use Rattle.script.proofs.command.read_command.Goals as goal
 use Rattle.script.proofs.command.read_command.Goals.{in_default-via-then-words-lt1, in_default-via-else-words-lt1+in_default}
 use Rattle.script.proofs.Readings.{reads_part}
-use Rattle.script.proofs.Spellings.{ask_call, ask_meter, ask_scale, at, behind_first}
-use Rattle.script.specs.Asked.{call, call_spelled, meter, meter_spelled, scale, scale_spelled, spelled}
+use Rattle.script.proofs.Spellings.{ask_call, at}
+use Rattle.script.specs.Asked.{call, call_spelled, spelled}
 use Rattle.script.specs.Calls.{ask_of, call_of}
 use Rattle.script.specs.Words.{texts}
 use Rattle.std.specs.Option.{option_map}

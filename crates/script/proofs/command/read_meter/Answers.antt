@@ -1,11 +1,6 @@
-use Rattle.std.proofs.Common.{◌≡◌, ℕ, ◌<◌, List, [], ◌∷◌, length, codes, ap, ◌∙◌, inl, inr, arith, rules, ltb-false, ltb-true}
+use Rattle.std.proofs.Common.{◌≡◌, codes, inl, inr, arith, rules, ltb-false, ltb-true}
 use Rattle.script.proofs.command.read_meter.Goals as goal
-use Rattle.script.proofs.Readings.{reads_part}
-use Rattle.script.proofs.Spellings.{at, behind_first, meter_card, meter_other, meter_none, texts_1}
-use Rattle.script.specs.Asked.{charges_spelled, meter_spelled}
-use Rattle.script.specs.declared.command.MeterChoice.TheVariants.{Card}
-use Rattle.script.specs.Words.{texts}
-use Rattle.std.specs.Option.{option_map}
+use Rattle.script.proofs.Spellings.{at, meter_other}
 
 pub returns-in_default-2 : goal.returns-in_default-2
 returns-in_default-2 c =

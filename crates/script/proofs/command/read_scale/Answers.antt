@@ -1,11 +1,7 @@
-use Rattle.std.proofs.Common.{◌≡◌, ℕ, List, [], ◌∷◌, codes, ap, ◌∙◌, arith, rules, ltb-false, ltb-true}
+use Rattle.std.proofs.Common.{◌≡◌, codes, ap, ◌∙◌, arith, rules, ltb-false, ltb-true}
 use Rattle.script.proofs.command.read_scale.Goals as goal
-use Rattle.script.proofs.Readings.{reads_part}
-use Rattle.script.proofs.Spellings.{at, scale_few, scale_many, texts_2, unlike}
+use Rattle.script.proofs.Spellings.{at, texts_2, unlike}
 use Rattle.script.specs.Asked.{scale_spelled}
-use Rattle.script.specs.declared.command.ScaleChoice.TheVariants.{Ladder, Departments}
-use Rattle.script.specs.Words.{natural, texts}
-use Rattle.std.specs.Option.{option_map}
 
 pub returns-in_default-2 : goal.returns-in_default-2
 returns-in_default-2 c =
@@ -15,4 +11,3 @@ returns-in_default-2 c =
     ap scale_spelled (texts_2 ws (omega (arith, ltb-true, ltb-false)))
     ∙ unlike (at ws 0) (codes "ladder") _ _ one
     ∙ unlike (at ws 0) (codes "departments") _ _ two
-

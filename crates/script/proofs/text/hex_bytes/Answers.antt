@@ -2,7 +2,7 @@ use Rattle.std.proofs.Common.{◌≡◌, ℕ, ◌<◌, min, List, ◌++◌, leng
 use Rattle.script.proofs.Bytes.{behind, behind_nothing, read_more, read_none}
 use Rattle.script.proofs.Readings.{reads_none}
 use Rattle.script.proofs.text.hex_bytes.Goals as goal
-use Rattle.script.specs.Hex.{bytes, bytes_value, byte_value}
+use Rattle.script.specs.Hex.{bytes_value, byte_value}
 use Rattle.std.specs.Slice.Iter.{chunks_rest, chunks_size}
 
 -- to begin with there are no bytes

@@ -1,4 +1,4 @@
-use Rattle.std.proofs.Common.{◌≡◌, ◌<◌, ◌≤◌, length, get_or, sym, ap, ◌∙◌, arith}
+use Rattle.std.proofs.Common.{◌<◌, ◌≤◌, length, get_or, sym, ap, ◌∙◌, arith}
 use Rattle.reader.specs.Books.{said}
 use Rattle.flowcheck.proofs.walk.Walk.figure_level.Goals as goal
 use Rattle.std.proofs.lemmas.List.{get_or_default, get_or_past}

@@ -11,7 +11,7 @@ use Rattle.reader.specs.Books.{said}
 use Rattle.std.proofs.lemmas.Int.{to_z-of_z}
 use Rattle.std.proofs.lemmas.Bool.{not-false, not-true}
 use Rattle.steps.specs.Amounts.{is_zero}
-use Rattle.steps.specs.Machines.{Machine, amount_at, emptied, perform}
+use Rattle.steps.specs.Machines.{Machine, amount_at, perform}
 use Rattle.steps.specs.Runs.{exec, left, started, times}
 use Rattle.steps.specs.Seen.{machine_with, state_of}
 

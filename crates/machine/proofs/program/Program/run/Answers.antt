@@ -1,4 +1,4 @@
-use Rattle.std.proofs.Common.{◌≡◌, length, sym, refl, ap, ◌∙◌}
+use Rattle.std.proofs.Common.{sym, refl, ap, ◌∙◌}
 use Rattle.reader.specs.Books.{said}
 use Rattle.machine.proofs.Found.{event_found, event_missing}
 use Rattle.machine.proofs.program.Program.run.Goals as goal

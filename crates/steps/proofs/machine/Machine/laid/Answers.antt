@@ -1,4 +1,4 @@
-use Rattle.std.proofs.Common.{◌≡◌, ◌<◌, ◌≤◌, ltb, List, [], ◌∷◌, reverse, length, get_or, take, ℤ, pos, sym, refl, ap, ◌∙◌, arith}
+use Rattle.std.proofs.Common.{◌≡◌, ltb, [], ◌∷◌, reverse, length, take, pos, sym, ap, ◌∙◌, arith}
 use Rattle.stack.proofs.Tops.{fewer, height, less, more}
 use Rattle.stack.specs.Stacks.{rest}
 use Rattle.std.proofs.lemmas.Bool.{cond-false, cond-true, le-ltb, lt-ltb}
