@@ -5,10 +5,10 @@ pub mod Firsts
 pub mod Flowing
 pub mod Levels
 pub mod Parts
-pub mod Passing
+pub mod PartTolls
 pub mod Places
 pub mod Quiet
 pub mod Rules
-pub mod TollBounds
+pub mod Tolling
 pub mod Walking
 pub mod Worked

@@ -1,5 +1,4 @@
 pub mod Parts
-pub mod Passes
 pub mod Tolls
 pub mod Verdicts
 pub mod Walks

@@ -8,12 +8,11 @@ ghost use Rattle.flowcheck.specs.Checked.{outcome};
 ghost use Rattle.flowcheck.specs.Checks.{checking, checking_bytes, setting, unknown};
 ghost use Rattle.flowcheck.specs.Laws.{CheckLaw};
 ghost use Rattle.flowcheck.specs.Parts.{PartTolls};
-ghost use Rattle.flowcheck.specs.Passes.{TollsBehind};
 ghost use Rattle.flowcheck.specs.Tolls.{second_ahead, toll};
 ghost use Rattle.flowcheck.specs.Walks.{fault_at, walk as walkFrom};
 ghost use Rattle.stack.specs.Stacks.{held};
 
-use crate::tolls::tolls_behind;
+use crate::tolls::toll_from;
 use crate::walk::Walk;
 use book::cursor::Cursor;
 use book::instruction::Instruction;
@@ -62,33 +61,31 @@ fn parts_law<M: Meter>(meter: &M, book: &Book, place: usize)
     meter.laws();
 }
 
-// Whether the two parts of the if at a place have different tolls, told by the tolls behind each place.
-fn parts_differ<M: Meter>(tolls: &[u64; 256], meter: &M, book: &Book, place: usize) -> bool
-    requires tolls_behind { TollsBehind (M.Meter.meaning meter.now) (said book.now).code tolls.now }
-    requires place_value { (slice_index_or (said book.now).code place Stop ≡ If) × (place < length (said book.now).code) }
+// Whether the two parts of the if at a place have different tolls.
+fn parts_differ<M: Meter>(meter: &M, book: &Book, place: usize) -> bool
+    requires { (slice_index_or (said book.now).code place Stop ≡ If) × (place < length (said book.now).code) }
     ensures { result ≡ not (toll (M.Meter.meaning meter.now) (here (parse (drop (place + 1) (said book.now).code))) == toll (M.Meter.meaning meter.now) (second_ahead (parse (drop (place + 1) (said book.now).code)))) }
 {
     parts_law(meter, book, place);
     let code = book.code();
+    let first = toll_from(meter, code, place + 1);
     let mut cursor = Cursor::new(place);
     let second = match cursor.matching_else(code) {
-        Some(other) => tolls[other],
+        Some(other) => toll_from(meter, code, other + 1),
         None => 0,
     };
-    tolls[place] != second
+    first != second
 }
 
-// The smallest rule that is broken on the instruction at a place, where the tolls behind each place are known.
+// The smallest rule that is broken on the instruction at a place.
 fn fault_at<S: Scale, M: Meter>(
     walk: &Walk,
     scale: &S,
     meter: &M,
     book: &Book,
     place: usize,
-    tolls: &[u64; 256],
 ) -> Option<CheckFault>
-    requires place_in_bounds { place < length (said book.now).code }
-    requires tolls_behind { TollsBehind (M.Meter.meaning meter.now) (said book.now).code tolls.now }
+    requires { place < length (said book.now).code }
     ensures { result ≡ fault_at (setting (S.Scale.meaning scale.now) (M.Meter.meaning meter.now) (said book.now)) place (held walk.now.contexts) (held walk.now.levels) (slice_index_or (said book.now).code place Stop) (drop (place + 1) (said book.now).code) }
 {
     let instruction = book.code()[place];
@@ -98,7 +95,7 @@ fn fault_at<S: Scale, M: Meter>(
     match instruction {
         Instruction::Store(figure) => walk.store_fault(scale, meter, book, figure, place as u32),
         Instruction::If => {
-            if !walk.shows_test(scale, meter, book) && parts_differ(tolls, meter, book, place) {
+            if !walk.shows_test(scale, meter, book) && parts_differ(meter, book, place) {
                 return Some(CheckFault::Parts(place as u32));
             }
             None
@@ -119,10 +116,9 @@ fn fault_at<S: Scale, M: Meter>(
 fn flow_fault<S: Scale, M: Meter>(scale: &S, meter: &M, book: &Book) -> Option<CheckFault>
     ensures { result ≡ walkFrom (setting (S.Scale.meaning scale.now) (M.Meter.meaning meter.now) (said book.now)) 0 [] [] (said book.now).code }
 {
-    let tolls = tolls_behind(meter, book.code());
     let mut walk = Walk::new();
     for place in 0..book.code().len() {
-        if let Some(fault) = fault_at(&walk, scale, meter, book, place, &tolls) {
+        if let Some(fault) = fault_at(&walk, scale, meter, book, place) {
             return Some(fault);
         }
         walk.pass(scale, meter, book, book.code()[place]);

@@ -1,96 +1,110 @@
 // Tolls: the ticks of a stretch of code at operands 0, worked out without running it.
-ghost use Rattle.std.specs.Prelude.{◌≡◌, ◌≤◌, [], length};
-ghost use Rattle.flowcheck.specs.Passes.{TollsBehind, innermost, passed, seen};
-ghost use Rattle.flowcheck.specs.Tolls.{price as priceOf};
-ghost use Rattle.stack.specs.Stacks.{held, rest};
+ghost use Rattle.std.specs.Prelude.{◌≡◌, ◌+◌, ◌*◌, ◌≤◌, [], length, drop};
+ghost use Rattle.flowcheck.specs.Tolls.{added as addedBy, closes_all, fit, tolled, turns_after, turns_of};
+ghost use Rattle.stack.specs.Stacks.{held};
 
 use book::codes::code_of;
 use book::instruction::Instruction;
 use meter::meter::Meter;
 use stack::Stack;
 
-// The ticks of one instruction.
-fn price<M: Meter>(meter: &M, instruction: Instruction) -> u64
-    ensures { result ≡ priceOf (M.Meter.meaning meter.now) instruction }
+// What an instruction adds to a toll.
+fn added<M: Meter>(meter: &M, instruction: Instruction) -> u64
+    ensures { result ≡ addedBy (M.Meter.meaning meter.now) instruction }
 {
+    let charge = u64::from(meter.charge(code_of(instruction), 0, 0));
     match instruction {
         Instruction::Number(_)
         | Instruction::Figure(_)
         | Instruction::Clock
         | Instruction::Operate(_)
         | Instruction::Store(_)
-        | Instruction::If
-        | Instruction::Repeat(_) => u64::from(meter.charge(code_of(instruction), 0, 0)),
+        | Instruction::If => charge,
+        Instruction::Repeat(count) => u64::from(count) * charge,
         Instruction::Wait(ticks) => u64::from(ticks),
         Instruction::Else | Instruction::End | Instruction::Stop => 0,
     }
 }
 
-// What a pass from the last instruction to the first knows.
+// The toll of what is left of a stretch.
 #[derive(Drop)]
-struct Pass {
-    // the toll from here to the end of the stretch
+struct Toll {
     ticks: u64,
-    // for each block that is open here the toll of what stands behind it in its own stretch
-    around: Stack<u64>,
+    // for each block that opened on the way how often its inside counts
+    turns: Stack<u64>,
 }
 
-impl Pass {
+impl Toll {
     fn new() -> Self
-        ensures { (result.ticks ≡ 0) × (held result.around ≡ []) }
+        ensures { (result.ticks ≡ 0) × (held result.turns ≡ []) }
     {
-        Pass {
+        Toll {
             ticks: 0,
-            around: Stack::new(0),
+            turns: Stack::new(1),
         }
     }
 
-    // Takes the innermost block off, and answers the toll of what stands behind it.
-    fn close(&mut self) -> u64
-        ensures behind { result ≡ innermost (held self.old.around) }
-        ensures around { held self.new.around ≡ rest (held self.old.around) }
+    // Whether an instruction closes the stretch.
+    fn closes(&self, instruction: Instruction) -> bool
+        ensures { result ≡ closes_all instruction (held self.now.turns) }
     {
-        self.around.pop().unwrap_or(0)
-    }
-
-    // Goes back over one instruction.
-    fn step<M: Meter>(&mut self, meter: &M, instruction: Instruction)
-        ensures ticks { self.new.ticks ≡ (passed (M.Meter.meaning meter.now) instruction (seen self.old.ticks (held self.old.around))).ticks }
-        ensures around { held self.new.around ≡ (passed (M.Meter.meaning meter.now) instruction (seen self.old.ticks (held self.old.around))).around }
-    {
-        let part = self.ticks;
-        let ticks = part.saturating_add(price(meter, instruction));
         match instruction {
-            Instruction::If => self.ticks = ticks.saturating_add(self.close()),
-            Instruction::Repeat(count) => {
-                let all = ticks.saturating_mul(u64::from(count));
-                self.ticks = all.saturating_add(self.close());
-            }
-            Instruction::End => {
-                let _ = self.around.push(part);
-                self.ticks = 0;
-            }
-            Instruction::Else | Instruction::Stop => self.ticks = 0,
+            Instruction::Stop => true,
+            Instruction::Else | Instruction::End => self.turns.height() == 0,
             Instruction::Number(_)
             | Instruction::Figure(_)
             | Instruction::Clock
             | Instruction::Operate(_)
             | Instruction::Store(_)
-            | Instruction::Wait(_) => self.ticks = ticks,
+            | Instruction::If
+            | Instruction::Repeat(_)
+            | Instruction::Wait(_) => false,
+        }
+    }
+
+    // One instruction more, which takes these ticks.
+    fn add(&mut self, instruction: Instruction, ticks: u64)
+        ensures ticks { self.new.ticks ≡ fit (self.old.ticks + fit (turns_of (held self.old.turns) * ticks)) }
+        ensures turns { held self.new.turns ≡ turns_after instruction (held self.old.turns) }
+    {
+        let turns = self.turns.top().unwrap_or(1);
+        self.ticks = self.ticks.saturating_add(turns.saturating_mul(ticks));
+        match instruction {
+            Instruction::If => {
+                let _ = self.turns.push(turns);
+            }
+            Instruction::Repeat(count) => {
+                let _ = self.turns.push(turns.saturating_mul(u64::from(count)));
+            }
+            Instruction::Else => {
+                let _ = self.turns.pop();
+                let _ = self.turns.push(0);
+            }
+            Instruction::End => {
+                let _ = self.turns.pop();
+            }
+            Instruction::Number(_)
+            | Instruction::Figure(_)
+            | Instruction::Clock
+            | Instruction::Operate(_)
+            | Instruction::Store(_)
+            | Instruction::Wait(_)
+            | Instruction::Stop => {}
         }
     }
 }
 
-// For each place the toll of the stretch that starts right behind it.
-pub(crate) fn tolls_behind<M: Meter>(meter: &M, code: &[Instruction]) -> [u64; 256]
-    requires { length code.now ≤ 256 }
-    ensures { TollsBehind (M.Meter.meaning meter.now) code.now result }
+// The toll of the stretch that starts at a place.
+pub(crate) fn toll_from<M: Meter>(meter: &M, code: &[Instruction], from: usize) -> u64
+    requires { from ≤ length code.now }
+    ensures { result ≡ tolled (M.Meter.meaning meter.now) 0 [] (drop from code.now) }
 {
-    let mut pass = Pass::new();
-    let mut row = [0; 256];
-    for place in (0..code.len()).rev() {
-        row[place] = pass.ticks;
-        pass.step(meter, code[place]);
+    let mut toll = Toll::new();
+    for place in from..code.len() {
+        if toll.closes(code[place]) {
+            return toll.ticks;
+        }
+        toll.add(code[place], added(meter, code[place]));
     }
-    row
+    toll.ticks
 }

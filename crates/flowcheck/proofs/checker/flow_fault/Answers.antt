@@ -35,7 +35,7 @@ loop-place-preserved g c =
     let on = at_drop_more (walk x p cs ls) b.code p Stop (omega (arith, ap length c.code-place-end.ensures)) in
     let rest = walk x (p + 1) (contexts_after x cs ls i) (levels_after x ls i) is in
     let none : fault_at x p cs ls i is ≡ None = sym c.fault_at.ensures ∙ c.in_default.is in
-    let same : get_or c.code-in-loop-place.result.now p Stop ≡ i = ap (λ code. get_or code p Stop) c.code-in-loop-place.ensures in
+    let same : get_or c.code.result.now p Stop ≡ i = ap (λ code. get_or code p Stop) c.code.ensures in
     let contexts = c.pass.ensures.contexts ∙ ap (contexts_after x cs ls) same in
     let levels = c.pass.ensures.levels ∙ ap (levels_after x ls) same in
     (λ k. walk x (p + 1) (contexts k) (levels k) is) ∙ sym (on ∙ ap (λ o. or_else o rest) none) ∙ l.invariant

@@ -1,20 +1,17 @@
-use Rattle.std.proofs.Common.{◌≡◌, ℕ, ◌<◌, Some, arith, rules}
-use Rattle.book.specs.Looks.{matching_else}
-use Rattle.flowcheck.proofs.checker.parts_differ.Goals as goal
-use Rattle.flowcheck.specs.Parts.{PartTolls}
-use Rattle.meter.specs.Meters.{MeterModel}
+use Rattle.std.proofs.Common.{◌≡◌, ◌+◌, ◌≤◌, length, Some, ap, arith, rules}
 use Rattle.reader.specs.Books.{said}
-use Rattle.reader.specs.declared.rulebook.Book.{Book}
-use Rattle.std.proofs.lemmas.List.{length-take}
+use Rattle.book.specs.Looks.{matching_else}
+use Rattle.flowcheck.proofs.checker.parts_differ.Given as given
+use Rattle.flowcheck.proofs.checker.parts_differ.Goals as goal
 
--- what a look ahead finds stands in the book's code, which has at most 256 instructions
-within : (m : MeterModel) (b : Book) (p e : ℕ) → PartTolls m (said b).code p → matching_else (said b).code p ≡ Some e → e < 256
-within m b p e t found = omega (arith, (t.second e found).0, length-take b.count b.code, b.sizes)
+-- what the look ahead found stands in the book's own code
+within : (g : given.Over) (c : goal.In-Some g) → c.in-Some.other + 1 ≤ length c.code-code.result.now
+within g c =
+    let found : matching_else (said c.args.book.now).code c.args.place ≡ Some c.in-Some.other = cc in
+    omega (arith, (c.parts_law.ensures.second c.in-Some.other found).0, ap length c.code-code.ensures)
 
-pub offset_bounds-tolls-other : goal.offset_bounds-tolls-other
-offset_bounds-tolls-other g c =
-    let w = within (g.M.Meter.meaning c.args.meter.now) c.args.book.now c.args.place c.in-Some.other c.parts_law.ensures cc in
-    search rules
+pub overflow_add-other : goal.overflow_add-other
+overflow_add-other g c = let w = within g c in search rules
 
-pub bounds-tolls-other : goal.bounds-tolls-other
-bounds-tolls-other g c = within (g.M.Meter.meaning c.args.meter.now) c.args.book.now c.args.place c.in-Some.other c.parts_law.ensures cc
+pub toll_from-second-requires : goal.toll_from-second-requires
+toll_from-second-requires g c = within g c
