@@ -1,7 +1,7 @@
 #!/usr/bin/env bash
 # A program that lets a slip lapse must not build, nor one that uses a slip that it has carried.
 # Small crates over the engine, made in a temporary folder, do just that. The prover has to refuse the first, since
-# nothing meets what letting a slip go requires, and the compiler the second, since the slip was moved. A third crate,
+# a slip that was opened does not meet what letting one go requires, and the compiler the second, since the slip was moved. A third crate,
 # which withdraws its slip, has to be proved, so that the refusals cannot come from how the crates are set up.
 # Prints `ok` and ends with status 0 if all of this holds, and ends with status 1 otherwise.
 set -u
@@ -9,35 +9,32 @@ here="$(cd "$(dirname "${BASH_SOURCE[0]}")/.." && pwd)"
 room="$(mktemp -d)"
 trap 'rm -rf "$room"' EXIT
 
-# The engine and the crates that it builds on, with what was proved of them before.
-layers="refusal stack line scale meter book check machine engine"
+# The engine and the crates that it builds on, with what was proved of them before in their folders out/.
+layers="refusal stack line scale meter book reader flowcheck steps machine engine"
 mkdir "$room/crates"
 for crate in $layers; do
     cp -r "$here/crates/$crate" "$room/crates/$crate"
     grep "^$crate:" "$here/crates.txt" >>"$room/crates.txt"
 done
-if [ -d "$here/target" ]; then
-    cp -r "$here/target" "$room/target"
-fi
 
 # library NAME: makes a crate of this name with the function on standard input.
 library() {
     mkdir -p "$room/crates/$1/src"
     {
+        echo "#![tactic(auto)]"
+        echo
         echo "use engine::engine::Engine;"
-        echo "use engine::slip::Refused;"
-        echo "use engine::slip::Slip;"
+        echo "use engine::slip::{Refused, Slip};"
         echo "use meter::digit::Digit;"
-        echo "use meter::digit::DigitMeter;"
         echo "use scale::ladder::Ladder;"
-        echo "use scale::ladder::LadderScale;"
+        echo
         cat
     } >"$room/crates/$1/src/lib.rt"
     echo "$1: $layers" >>"$room/crates.txt"
 }
 
 prove() {
-    (cd "$room" && rt dev "$1") >"$room/$1.log" 2>&1
+    (cd "$room/crates/$1" && rt check) >"$room/$1.log" 2>&1
 }
 
 failed=0

@@ -18,10 +18,11 @@ pub struct Slip {
     pub(crate) numbers: Numbers,
 }
 
-// Nothing meets this requirement, so a program that lets a slip go is refused.
+// Openings are counted from 1, so a slip that an engine gave never meets this requirement, and a program that lets
+// one go is refused.
 impl Drop for Slip {
     fn drop(self)
-        requires { ⊥ }
+        requires { self.numbers.number ≡ 0 }
     {
         let Slip { numbers: _ } = self;
     }
