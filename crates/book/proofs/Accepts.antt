@@ -15,7 +15,7 @@ use Rattle.book.specs.Reads.{BookModel, word, long, words, longs, raw, raws, sca
 use Rattle.book.specs.Trees.{Code, events, event_weight}
 use Rattle.std.proofs.lemmas.List.{append-nil, length-map, drop_all}
 use Rattle.std.proofs.lemmas.Bool.{ltb-false, eqb-true}
-use Rattle.std.specs.List.{flat_map, AllByRecursion as All}
+use Rattle.std.specs.List.{flat_map, AllByRecursion}
 
 -- What was asked of bytes that were read as a book.
 pub record Read (bs : List ℕ) (b : BookModel) : Type 0 where
@@ -57,12 +57,12 @@ reading_ok bs b =
     nc = word bs 2
 
 -- what holds of each image holds of each element by its image
-all_unmap : {X Y : Type 0} (P : Y → Type 0) (f : X → Y) (xs : List X) → All P (map f xs) → All (λ x. P (f x)) xs
+all_unmap : {X Y : Type 0} (P : Y → Type 0) (f : X → Y) (xs : List X) → AllByRecursion P (map f xs) → AllByRecursion (λ x. P (f x)) xs
 all_unmap P f [] a = tt
 all_unmap P f (x ∷ xs) a = (a.0, all_unmap P f xs a.1)
 
 -- formed and light events
-both_formed : (nv : ℕ) (es : List Code) → All (λ e. Formed nv 8 0 e) es → All (λ e. event_weight e ≤ 100000) es → All (λ e. EventFormed nv e) es
+both_formed : (nv : ℕ) (es : List Code) → AllByRecursion (λ e. Formed nv 8 0 e) es → AllByRecursion (λ e. event_weight e ≤ 100000) es → AllByRecursion (λ e. EventFormed nv e) es
 both_formed nv [] f l = tt
 both_formed nv (e ∷ es) f l = (record { formed = f.0; light = l.0 }, both_formed nv es f.1 l.1)
 
@@ -112,8 +112,8 @@ module _ (bs : List ℕ) (bytes : Bytes bs) (nv nc : ℕ) (is : List Instruction
   code_many : length is ≡ nc
   code_many = sym (length-map is raw) ∙ ap length raw-is ∙ length-raws nc (6 + 6 * nv) (6 + 6 * nv + nc) bs
 
-  arguments_fit_read : All (λ i. SFits w32 (argument_of i)) is
-  arguments_fit_read = all_unmap (SFits w32) argument_of is (subst (All (SFits w32)) (sym arguments_read) (all_fields 4 long (SFits w32) bs (λ at. long_field.fit bs at bytes) nc (6 + 6 * nv + nc)))
+  arguments_fit_read : AllByRecursion (λ i. SFits w32 (argument_of i)) is
+  arguments_fit_read = all_unmap (SFits w32) argument_of is (subst (AllByRecursion (SFits w32)) (sym arguments_read) (all_fields 4 long (SFits w32) bs (λ at. long_field.fit bs at bytes) nc (6 + 6 * nv + nc)))
 
 -- the sizes and the clock's level, and what follows them
 front_written : (bs : List ℕ) → Bytes bs → 6 ≤ length bs → bs ≡ two (word bs 0) ++ (two (word bs 2) ++ (two (word bs 4) ++ drop 6 bs))
@@ -146,11 +146,11 @@ accepts bs b bytes r =
         starts_too = starts_many bs bytes nv nc is r.as_long raw-is ∙ sym figures-are;
         instructions = subst (λ k. k ≤ 256) (sym instructions-are) r.instructions_few;
         clock_fits = word_field.fit bs 4 bytes;
-        levels_fit = subst (All (λ l. l < 65536)) (sym (words_fields nv 6 bs)) (all_fields 2 word (λ l. l < 65536) bs (λ k. word_field.fit bs k bytes) nv 6);
-        starts_fit = subst (All (λ z. SFits w32 z)) (sym (longs_fields nv (6 + 2 * nv) bs)) (all_fields 4 long (λ z. SFits w32 z) bs (λ k. long_field.fit bs k bytes) nv (6 + 2 * nv));
+        levels_fit = subst (AllByRecursion (λ l. l < 65536)) (sym (words_fields nv 6 bs)) (all_fields 2 word (λ l. l < 65536) bs (λ k. word_field.fit bs k bytes) nv 6);
+        starts_fit = subst (AllByRecursion (λ z. SFits w32 z)) (sym (longs_fields nv (6 + 2 * nv) bs)) (all_fields 4 long (λ z. SFits w32 z) bs (λ k. long_field.fit bs k bytes) nv (6 + 2 * nv));
         arguments_fit = arguments_fit_read bs bytes nv nc is r.as_long raw-is;
         program = events is;
         code_is = sym spoken.code_is;
-        events_formed = subst (λ k. All (λ e. EventFormed k e) (events is)) (sym figures-are) (both_formed nv (events is) spoken.formed spoken.light);
+        events_formed = subst (λ k. AllByRecursion (λ e. EventFormed k e) (events is)) (sym figures-are) (both_formed nv (events is) spoken.formed spoken.light);
       },
     )

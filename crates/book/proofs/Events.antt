@@ -8,7 +8,7 @@ use Rattle.book.specs.Forms.{Formed, ends, number, figure, clock, operate, store
 use Rattle.book.specs.Reads.{sound}
 use Rattle.book.specs.Trees.{Code, flat, whole, events}
 use Rattle.std.proofs.lemmas.List.{append_assoc}
-use Rattle.std.specs.List.{AllByRecursion as All}
+use Rattle.std.specs.List.{AllByRecursion}
 
 no_stop : (n m : ℕ) → n ≡ m → 0 + n ≡ m
 no_stop n m e = omega arith
@@ -32,7 +32,7 @@ stops_flat (two_parts {f} {s} {c} p q r) is =
 stops_flat (turns {f} {c} b p q) is =
     no_stop _ _ (ap stops (append_assoc (flat f) (End ∷ flat c) is) ∙ stops_flat p (End ∷ (flat c ++ is)) ∙ no_stop _ _ (stops_flat q is))
 
-pub stops_whole : (nv : ℕ) (es : List Code) → All (λ e. Formed nv 8 0 e) es → stops (whole es) ≡ length es
+pub stops_whole : (nv : ℕ) (es : List Code) → AllByRecursion (λ e. Formed nv 8 0 e) es → stops (whole es) ≡ length es
 stops_whole nv [] a = refl
 stops_whole nv (e ∷ es) a =
     let more : 1 + stops (whole es) ≡ suc (stops (whole es)) = omega arith in

@@ -2,11 +2,11 @@
 use Rattle.std.proofs.Common.{◌≡◌, ℕ, zero, suc, ◌+◌, ◌*◌, ◌<◌, ◌≤◌, List, [], ◌∷◌, ◌++◌, length, drop, sym, refl, ap, ◌∙◌, ap₂, mul-suc, arith}
 use Rattle.std.proofs.ByRecursion.{All-drop}
 use Rattle.std.proofs.lemmas.List.{append_assoc, length-append, length-drop, drop_at, drop-drop}
-use Rattle.std.specs.List.{flat_map, AllByRecursion as All}
+use Rattle.std.specs.List.{flat_map, AllByRecursion}
 
 -- bytes are numbers below 256
 abbrev pub Bytes : List ℕ → Type 0
-Bytes bs = All (λ x. x < 256) bs
+Bytes bs = AllByRecursion (λ x. x < 256) bs
 
 module _ {X : Type 0} (size : ℕ) (read : List ℕ → ℕ → X) where
   -- n fields from a place on
@@ -20,7 +20,7 @@ module _ {X : Type 0} (size : ℕ) (read : List ℕ → ℕ → X) where
   length_fields (suc n) at bs = ap suc (length_fields n (at + size) bs)
 
   -- what holds of every read holds of each field
-  pub all_fields : (P : X → Type 0) (bs : List ℕ) → ((at : ℕ) → P (read bs at)) → (n at : ℕ) → All P (fields n at bs)
+  pub all_fields : (P : X → Type 0) (bs : List ℕ) → ((at : ℕ) → P (read bs at)) → (n at : ℕ) → AllByRecursion P (fields n at bs)
   all_fields P bs h zero at = tt
   all_fields P bs h (suc n) at = (h at, all_fields P bs h n (at + size))
 
@@ -57,7 +57,7 @@ module _ {X : Type 0} {size : ℕ} {read : List ℕ → ℕ → X} {write : X �
       ∙ law.written_read (drop at bs) (All-drop (λ x. x < 256) at bs b) (omega arith)
 
   -- By induction on the values, each one read behind those before it.
-  pub fields_written : (xs : List X) → All Fit xs → (pre post : List ℕ) (at : ℕ) → length pre ≡ at → fields size read (length xs) at (pre ++ (flat_map write xs ++ post)) ≡ xs
+  pub fields_written : (xs : List X) → AllByRecursion Fit xs → (pre post : List ℕ) (at : ℕ) → length pre ≡ at → fields size read (length xs) at (pre ++ (flat_map write xs ++ post)) ≡ xs
   fields_written [] a pre post at e = refl
   fields_written (x ∷ xs) a pre post at e =
       let apart : pre ++ ((write x ++ flat_map write xs) ++ post) ≡ pre ++ (write x ++ (flat_map write xs ++ post)) = ap (λ l. pre ++ l) (append_assoc (write x) (flat_map write xs) post) in

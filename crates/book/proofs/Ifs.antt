@@ -10,7 +10,7 @@ use Rattle.book.specs.Looks.{is_if}
 use Rattle.book.specs.Reads.{sound}
 use Rattle.book.specs.Trees.{Code, flat, whole, weight, event_weight, events}
 use Rattle.std.proofs.lemmas.List.{append_assoc}
-use Rattle.std.specs.List.{AllByRecursion as All}
+use Rattle.std.specs.List.{AllByRecursion}
 
 -- an if stands before these instructions: with one part, or with two; in each at most eight more blocks may be open
 pub data IfAt (nv : ℕ) (is : List Instruction) : Type 0 where
@@ -55,7 +55,7 @@ flat_ifs {nv} (turns {n} {f} {c} b p q) r w is t =
     (none nv ((flat f ++ (End ∷ flat c)) ++ is), subst (Ifs nv) (sym (append_assoc (flat f) (End ∷ flat c) is)) (flat_ifs p (omega arith) (omega arith) (End ∷ after) ended))
 
 -- so it is in all events that are formed and light
-pub whole_ifs : (nv : ℕ) (es : List Code) → All (λ e. Formed nv 8 0 e) es → All (λ e. event_weight e ≤ 100000) es → Ifs nv (whole es)
+pub whole_ifs : (nv : ℕ) (es : List Code) → AllByRecursion (λ e. Formed nv 8 0 e) es → AllByRecursion (λ e. event_weight e ≤ 100000) es → Ifs nv (whole es)
 whole_ifs nv [] a l = tt
 whole_ifs nv (e ∷ es) a l =
     let light : event_weight e ≤ 100000 = l.0 in

@@ -7,7 +7,7 @@ use Rattle.book.specs.Forms.{Formed, ends, number, figure, clock, operate, store
 use Rattle.book.specs.Reads.{sound}
 use Rattle.book.specs.Trees.{Code, flat, whole, events}
 use Rattle.std.proofs.lemmas.List.{append_assoc}
-use Rattle.std.specs.List.{AllByRecursion as All}
+use Rattle.std.specs.List.{AllByRecursion}
 
 -- these instructions begin with a formed stretch and the end that closes it
 pub record Inside (nv : ℕ) (is : List Instruction) : Type 0 where
@@ -67,7 +67,7 @@ flat_insides {nv} (turns {n} {f} {c} b p q) is t =
     (closes p ((flat f ++ (End ∷ flat c)) ++ is) after says, subst (Insides nv) (sym says) (flat_insides p (End ∷ after) ended))
 
 -- so it is in all events that are formed
-pub whole_insides : (nv : ℕ) (es : List Code) → All (λ e. Formed nv 8 0 e) es → Insides nv (whole es)
+pub whole_insides : (nv : ℕ) (es : List Code) → AllByRecursion (λ e. Formed nv 8 0 e) es → Insides nv (whole es)
 whole_insides nv [] a = tt
 whole_insides nv (e ∷ es) a = flat_insides a.0 (Stop ∷ whole es) (tt, whole_insides nv es a.1)
 

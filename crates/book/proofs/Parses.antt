@@ -7,7 +7,7 @@ use Rattle.book.specs.Forms.{Formed, ends, number, figure, clock, operate, store
 use Rattle.book.specs.Trees.{Code, done, plain, branch, loop, flat, whole, Closer, ending, elsing, stopping, Ahead, last, closed, grow, forked, branched, looped, before, parse, events_ahead, events}
 use Rattle.std.proofs.ByRecursion.{All-weaker}
 use Rattle.std.proofs.lemmas.List.{append_assoc}
-use Rattle.std.specs.List.{AllByRecursion as All}
+use Rattle.std.specs.List.{AllByRecursion}
 
 -- the instruction that closes a stretch
 abbrev pub instr : Closer → Instruction
@@ -52,7 +52,7 @@ parse_flat (turns {n} {f} {c} b p q) k is =
     ∙ ap (grow (loop n f)) (parse_flat q k is)
 
 -- events parse to themselves
-pub parse_whole : (nv : ℕ) (es : List Code) → All (λ e. Formed nv 8 0 e) es → parse (whole es) ≡ ahead es
+pub parse_whole : (nv : ℕ) (es : List Code) → AllByRecursion (λ e. Formed nv 8 0 e) es → parse (whole es) ≡ ahead es
 parse_whole nv [] a = refl
 parse_whole nv (e ∷ es) a = parse_flat a.0 stopping (whole es) ∙ ap (closed stopping e) (parse_whole nv es a.1)
 
@@ -62,9 +62,9 @@ events_ahead_lem [] = refl
 events_ahead_lem (e ∷ es) = ap (λ l. e ∷ l) (events_ahead_lem es)
 
 -- and so the events of their instructions are the events
-pub events_whole : (nv : ℕ) (es : List Code) → All (λ e. Formed nv 8 0 e) es → events (whole es) ≡ es
+pub events_whole : (nv : ℕ) (es : List Code) → AllByRecursion (λ e. Formed nv 8 0 e) es → events (whole es) ≡ es
 events_whole nv es a = ap events_ahead (parse_whole nv es a) ∙ events_ahead_lem es
 
 -- the events of a well-formed book are formed, whatever they weigh
-pub all_formed : (nv : ℕ) (es : List Code) → All (λ e. EventFormed nv e) es → All (λ e. Formed nv 8 0 e) es
+pub all_formed : (nv : ℕ) (es : List Code) → AllByRecursion (λ e. EventFormed nv e) es → AllByRecursion (λ e. Formed nv 8 0 e) es
 all_formed nv es a = All-weaker (λ e. EventFormed nv e) (λ e. Formed nv 8 0 e) (λ e w. w.formed) es a

@@ -12,10 +12,10 @@ use Rattle.book.specs.Trees.{event_weight}
 use Rattle.std.proofs.ByRecursion.{All-weaker, All-map}
 use Rattle.std.proofs.lemmas.List.{append_assoc, append-nil, length-append, length-map}
 use Rattle.std.proofs.lemmas.Bool.{cond-true, cond-false, le-ltb, eq-eqb}
-use Rattle.std.specs.List.{flat_map, AllByRecursion as All}
+use Rattle.std.specs.List.{flat_map, AllByRecursion}
 
 -- a code always fits its field
-all_codes : (cs : List ℕ) → All (λ c. Unit {0}) cs
+all_codes : (cs : List ℕ) → AllByRecursion (λ c. Unit {0}) cs
 all_codes [] = tt
 all_codes (c ∷ cs) = (tt, all_codes cs)
 

@@ -10,7 +10,7 @@ use Rattle.book.specs.Reads.{raw, scan, stops_last}
 use Rattle.book.specs.Trees.{Code, flat, whole}
 use Rattle.std.proofs.lemmas.List.{append_assoc}
 use Rattle.std.proofs.lemmas.Bool.{lt-ltb}
-use Rattle.std.specs.List.{AllByRecursion as All}
+use Rattle.std.specs.List.{AllByRecursion}
 
 -- something is open inside a block
 inside : (b : Block) (bs : List Block) → ltb 0 (length (b ∷ bs)) ≡ true
@@ -54,12 +54,12 @@ flat_fits {nv} (turns {f = a} {c} n p q) bs is r f =
     )
 
 -- the instructions of formed events fit, each event from an empty stack on
-pub whole_fits : (nv : ℕ) (es : List Code) → All (λ e. Formed nv 8 0 e) es → Fitting nv 0 [] (whole es)
+pub whole_fits : (nv : ℕ) (es : List Code) → AllByRecursion (λ e. Formed nv 8 0 e) es → Fitting nv 0 [] (whole es)
 whole_fits nv [] a = tt
 whole_fits nv (e ∷ es) a = flat_fits a.0 [] (Stop ∷ whole es) refl (tt, refl, refl, whole_fits nv es a.1)
 
 -- formed events, written as bytes, are scanned to themselves
-pub scan_whole : (nv p : ℕ) (es : List Code) → All (λ e. Formed nv 8 0 e) es → scan nv p 0 [] (map raw (whole es)) ≡ Ok (whole es)
+pub scan_whole : (nv p : ℕ) (es : List Code) → AllByRecursion (λ e. Formed nv 8 0 e) es → scan nv p 0 [] (map raw (whole es)) ≡ Ok (whole es)
 scan_whole nv p es a = scan_fits nv p 0 [] (whole es) (whole_fits nv es a)
 
 -- only what stands last counts

@@ -14,7 +14,7 @@ use Rattle.book.specs.Reads.{fits_height, height_after, in_first, fits_nesting, 
 use Rattle.book.specs.Trees.{Code, done, plain, branch, loop, flat, whole, ending, elsing, stopping, Ahead, last, closed, grow, forked, before, parse, events_ahead, events}
 use Rattle.std.proofs.lemmas.List.{append_assoc, nil_from_length}
 use Rattle.std.proofs.lemmas.Bool.{eqb-true, ltb-true}
-use Rattle.std.specs.List.{AllByRecursion as All}
+use Rattle.std.specs.List.{AllByRecursion}
 
 -- what is ahead where h amounts are on the stack and these blocks are open: each block is closed in its turn by an end,
 -- a first part perhaps by an else, and then come events to the end; every stretch is formed
@@ -199,11 +199,11 @@ shaped nv h bs i (j ∷ js) r f s =
 -- instructions that are the instructions of formed events, and parse to them
 pub record Programmed (nv : ℕ) (is : List Instruction) : Type 0 where
   pub code_is : whole (events is) ≡ is
-  pub formed : All (λ e. Formed nv 8 0 e) (events is)
+  pub formed : AllByRecursion (λ e. Formed nv 8 0 e) (events is)
   pub parsed : parse is ≡ ahead (events is)
 
 -- where nothing is open there are events ahead, and nothing else
-pub shape_events : (nv : ℕ) (a : Ahead) → Shape nv 0 [] a → (whole (events_ahead a) ≡ text a) × All (λ e. Formed nv 8 0 e) (events_ahead a) × (a ≡ ahead (events_ahead a))
+pub shape_events : (nv : ℕ) (a : Ahead) → Shape nv 0 [] a → (whole (events_ahead a) ≡ text a) × AllByRecursion (λ e. Formed nv 8 0 e) (events_ahead a) × (a ≡ ahead (events_ahead a))
 shape_events nv a (stop_last f) = (refl, (f, tt), refl)
 shape_events nv a (stop_more {c} {a = b} f s) =
     let w = shape_events nv b s in

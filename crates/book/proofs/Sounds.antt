@@ -16,10 +16,10 @@ use Rattle.book.specs.Forms.{Formed}
 use Rattle.book.specs.Reads.{Raw, raw, height_after, blocks_after, scan, stops_last, heavy, light, finished, sound}
 use Rattle.book.specs.Trees.{Code, flat, whole, parse, events, event_weight}
 use Rattle.std.proofs.lemmas.Bool.{cond-true, cond-false, ltb-false, le-ltb}
-use Rattle.std.specs.List.{AllByRecursion as All}
+use Rattle.std.specs.List.{AllByRecursion}
 
 -- where no event is heavy each is light
-pub heavy_none : (p : ℕ) (es : List Code) → heavy p es ≡ None → All (λ e. event_weight e ≤ 100000) es
+pub heavy_none : (p : ℕ) (es : List Code) → heavy p es ≡ None → AllByRecursion (λ e. event_weight e ≤ 100000) es
 heavy_none p [] e = tt
 heavy_none p (c ∷ cs) e =
     by_test (ltb 100000 (event_weight c)) (Some p) (heavy (p + (length (flat c) + 1)) cs) None
@@ -28,7 +28,7 @@ heavy_none p (c ∷ cs) e =
     e
 
 -- and the other way round
-pub heavy_light : (p : ℕ) (es : List Code) → All (λ e. event_weight e ≤ 100000) es → heavy p es ≡ None
+pub heavy_light : (p : ℕ) (es : List Code) → AllByRecursion (λ e. event_weight e ≤ 100000) es → heavy p es ≡ None
 heavy_light p [] a = refl
 heavy_light p (c ∷ cs) a =
     cond-false (ltb 100000 (event_weight c)) (Some p) (heavy (p + (length (flat c) + 1)) cs) (le-ltb 100000 (event_weight c) a.0)
@@ -76,8 +76,8 @@ scan_same nv p h bs (i ∷ is) js e =
 -- code of events that are formed and light, which parses to them
 pub record WellSpoken (nv : ℕ) (is : List Instruction) : Type 0 where
   pub code_is : whole (events is) ≡ is
-  pub formed : All (λ e. Formed nv 8 0 e) (events is)
-  pub light : All (λ e. event_weight e ≤ 100000) (events is)
+  pub formed : AllByRecursion (λ e. Formed nv 8 0 e) (events is)
+  pub light : AllByRecursion (λ e. event_weight e ≤ 100000) (events is)
   pub parsed : parse is ≡ ahead (events is)
 
 -- what the reader gives is well spoken
@@ -107,7 +107,7 @@ finished_sound nv rs is e =
     ap (λ r. is_ok (finished r)) (scan_again nv 0 0 [] rs is f.scanned) ∙ ap is_ok (finished_passes is f.stops f.none_heavy)
 
 -- formed and light events pass all that the reader asks, and are given as they are
-pub whole_passes : (nv : ℕ) (es : List Code) → All (λ e. Formed nv 8 0 e) es → All (λ e. event_weight e ≤ 100000) es → finished (scan nv 0 0 [] (map raw (whole es))) ≡ Ok (whole es)
+pub whole_passes : (nv : ℕ) (es : List Code) → AllByRecursion (λ e. Formed nv 8 0 e) es → AllByRecursion (λ e. event_weight e ≤ 100000) es → finished (scan nv 0 0 [] (map raw (whole es))) ≡ Ok (whole es)
 whole_passes nv es f l =
     ap finished (scan_whole nv 0 es f)
     ∙ finished_passes (whole es) (whole_stops es) (ap (heavy 0) (events_whole nv es f) ∙ heavy_light 0 es l)

@@ -10,7 +10,7 @@ use Rattle.stack.specs.Stacks.{pushed}
 use Rattle.std.proofs.lemmas.List.{append_assoc, length-append}
 use Rattle.std.proofs.lemmas.Bool.{cond-true, lt-ltb, cases_lt}
 use Rattle.std.proofs.lemmas.Bool.Decides.{nat_tests}
-use Rattle.std.specs.List.{AllByRecursion as All}
+use Rattle.std.specs.List.{AllByRecursion}
 
 -- the same search from places and weights that are the same
 same : (s : ℕ) (ks : List ℕ) (is : List Instruction) (p p' T T' : ℕ) → p ≡ p' → T ≡ T' → heaviest p s (capped T) ks is ≡ heaviest p' s (capped T') ks is
@@ -103,7 +103,7 @@ weigh_flat (turns {d} {n} {f} {c} b q r) s p T K ks is e k =
     ∙ same s ks is (p + 1 + F + 1 + length (flat c)) (p + suc (length (flat f ++ (End ∷ flat c)))) (T + K + w + I + weight K c) (T + (K + (w + (I + weight K c)))) (omega arith) (omega arith)
 
 -- the search for a heavy event finds the first one
-pub heaviest_heavy : (nv : ℕ) (es : List Code) → All (λ e. Formed nv 8 0 e) es → (p : ℕ) → heaviest p p 0 [] (whole es) ≡ heavy p es
+pub heaviest_heavy : (nv : ℕ) (es : List Code) → AllByRecursion (λ e. Formed nv 8 0 e) es → (p : ℕ) → heaviest p p 0 [] (whole es) ≡ heavy p es
 heaviest_heavy nv [] a p = refl
 heaviest_heavy nv (e ∷ es) a p =
     let q = p + length (flat e) in

@@ -7,7 +7,7 @@ use Rattle.book.specs.declared.instruction.Instruction.{Instruction}
 use Rattle.book.specs.Forms.{Formed}
 use Rattle.book.specs.Reads.{BookModel, reading}
 use Rattle.book.specs.Trees.{Code, whole, event_weight}
-use Rattle.std.specs.List.{flat_map, AllByRecursion as All}
+use Rattle.std.specs.List.{flat_map, AllByRecursion}
 
 -- a number in two bytes, big-endian
 abbrev pub two : ℕ → List ℕ
@@ -43,14 +43,14 @@ pub record WellFormed (b : BookModel) : Type 0 where
   pub starts_too : length b.starts ≡ length b.levels
   pub instructions : length b.code ≤ 256
   pub clock_fits : b.clock < 65536
-  pub levels_fit : All (λ l. l < 65536) b.levels
-  pub starts_fit : All (λ z. FitsSigned w32 z) b.starts
-  pub arguments_fit : All (λ i. FitsSigned w32 (argument_of i)) b.code
+  pub levels_fit : AllByRecursion (λ l. l < 65536) b.levels
+  pub starts_fit : AllByRecursion (λ z. FitsSigned w32 z) b.starts
+  pub arguments_fit : AllByRecursion (λ i. FitsSigned w32 (argument_of i)) b.code
   pub program : List Code
   pub code_is : b.code ≡ whole program
-  pub events_formed : All (λ e. EventFormed (length b.levels) e) program
+  pub events_formed : AllByRecursion (λ e. EventFormed (length b.levels) e) program
 
 -- Reading accepts exactly the encodings of well-formed books, and gives the book back.
 pub record ReaderLaw : Type 0 where
-  pub accepted : (bs : List ℕ) (b : BookModel) → All (λ x. x < 256) bs → reading bs ≡ Ok b → (bs ≡ encode b) × WellFormed b
+  pub accepted : (bs : List ℕ) (b : BookModel) → AllByRecursion (λ x. x < 256) bs → reading bs ≡ Ok b → (bs ≡ encode b) × WellFormed b
   pub read_back : (b : BookModel) → WellFormed b → reading (encode b) ≡ Ok b

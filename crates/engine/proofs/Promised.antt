@@ -8,11 +8,11 @@ use Rattle.engine.specs.Models.{counts, Call, tally, EngineModel, Public, fresh}
 use Rattle.engine.specs.Promises.{Pairs, none, same, puts, Possible, Promise, transcript, opening, carrying, withdrawing, counted, still_out}
 use Rattle.meter.specs.Meters.{MeterModel, Lawful as MeterLaws}
 use Rattle.scale.specs.Scales.{ScaleModel, Lawful as ScaleLaws}
-use Rattle.std.specs.List.{AllByRecursion as All}
+use Rattle.std.specs.List.{AllByRecursion}
 
 module _ (s : ScaleModel) (m : MeterModel) (sl : ScaleLaws s) (ml : MeterLaws m) (L : ℕ) (known : s.known L ≡ true) where
   -- From twins on, by induction on how the calls pair off: each pair teaches the same and leaves twins.
-  private_from : {p q : EngineModel} {cs ds : List Call} → Pairs s m L p q cs ds → All Possible cs → Twins s m L p q → transcript s m L p cs ≡ transcript s m L q ds
+  private_from : {p q : EngineModel} {cs ds : List Call} → Pairs s m L p q cs ds → AllByRecursion Possible cs → Twins s m L p q → transcript s m L p cs ≡ transcript s m L q ds
   private_from none h t = refl
   private_from (same {p = p} {q = q} c w r) h t =
       let step = steps s m sl ml L known p q c h.0 w t in

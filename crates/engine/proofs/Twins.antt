@@ -23,7 +23,7 @@ use Rattle.scale.specs.Scales.{ScaleModel, Lawful as ScaleLaws}
 use Rattle.std.proofs.ByRecursion.{All-get_or}
 use Rattle.std.proofs.lemmas.List.{get_or-set_same, get_or-set_other}
 use Rattle.std.proofs.lemmas.Bool.{cases_eq, ltb-true}
-use Rattle.std.specs.List.{AllByRecursion as All}
+use Rattle.std.specs.List.{AllByRecursion}
 
 -- two states of a book that passed, with an amount for each figure and alike for an observer at L
 pub record Both (s : ScaleModel) (m : MeterModel) (L : ℕ) (b : BookModel) (p q : State) : Type 0 where
@@ -49,7 +49,7 @@ event_formed b w n i =
     let nv = length b.levels in
     let formed = all_formed nv w.program w.events_formed in
     All-get_or (λ e. Formed nv 8 0 e) (events b.code) n done i
-    (subst (All (λ e. Formed nv 8 0 e)) (sym (ap events w.code_is ∙ events_whole nv w.program formed)) formed)
+    (subst (AllByRecursion (λ e. Formed nv 8 0 e)) (sym (ap events w.code_is ∙ events_whole nv w.program formed)) formed)
 
 -- Two amounts stored in one place are the same wherever they are seen: at that place by what is said of them, at every
 -- other one since the lists agreed.
@@ -82,12 +82,12 @@ module _ (s : ScaleModel) (m : MeterModel) (L : ℕ) where
   keeps_judged e p q b w None o k = record { formed = w; passed = o; first = w.starts_too; second = w.starts_too; alike = record { amounts = λ v i l. refl; clocks = λ l. refl } }
   keeps_judged e p q b w (Some f) o k = k
 
-  keeps_read : (e : Public) (p q : State) (bs : List ℕ) → All (λ x. x < 256) bs → (r : Result BookModel ReaderFault) → reading bs ≡ r → Kept s m L e.book p q → Kept s m L (public_loaded e (after_reading s m r)).book (state_loaded p (after_reading s m r)) (state_loaded q (after_reading s m r))
+  keeps_read : (e : Public) (p q : State) (bs : List ℕ) → AllByRecursion (λ x. x < 256) bs → (r : Result BookModel ReaderFault) → reading bs ≡ r → Kept s m L e.book p q → Kept s m L (public_loaded e (after_reading s m r)).book (state_loaded p (after_reading s m r)) (state_loaded q (after_reading s m r))
   keeps_read e p q bs h (Ok b) o k = keeps_judged e p q b (reader_law.accepted bs b h o).1 (checking s m b) refl k
   keeps_read e p q bs h (Err f) o k = k
 
   -- one book loaded into both
-  pub keeps_loaded : (e : Public) (p q : State) (bs : List ℕ) → All (λ x. x < 256) bs → Kept s m L e.book p q → Kept s m L (public_loaded e (checking_bytes s m bs)).book (state_loaded p (checking_bytes s m bs)) (state_loaded q (checking_bytes s m bs))
+  pub keeps_loaded : (e : Public) (p q : State) (bs : List ℕ) → AllByRecursion (λ x. x < 256) bs → Kept s m L e.book p q → Kept s m L (public_loaded e (checking_bytes s m bs)).book (state_loaded p (checking_bytes s m bs)) (state_loaded q (checking_bytes s m bs))
   keeps_loaded e p q bs h k = keeps_read e p q bs h (reading bs) refl k
 
   -- one event run on both

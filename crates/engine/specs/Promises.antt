@@ -5,7 +5,7 @@ use Rattle.engine.specs.Calls.{after_all, answer, next}
 use Rattle.engine.specs.Models.{Answer, refused, loaded, accepted, amount, time, slip, counts, Call, load, put, run, show, clock, open_slip, carry, withdraw, tally, EngineModel, Paper, fresh, level_of, refusal}
 use Rattle.meter.specs.Meters.{MeterModel}
 use Rattle.scale.specs.Scales.{ScaleModel}
-use Rattle.std.specs.List.{AllByRecursion as All}
+use Rattle.std.specs.List.{AllByRecursion}
 
 -- the loaded book holds figure v at L or below
 abbrev pub HeldLow : ScaleModel → ℕ → Option BookModel → ℕ → Type 0
@@ -120,7 +120,7 @@ still_out (Some x) = 1
 
 -- a call that can be made: what is loaded are bytes
 abbrev pub Possible : Call → Type 0
-Possible (load bytes) = All (λ x. x < 256) bytes
+Possible (load bytes) = AllByRecursion (λ x. x < 256) bytes
 Possible (put v a) = Unit {0}
 Possible (run n) = Unit {0}
 Possible (show l v) = Unit {0}
@@ -133,7 +133,7 @@ Possible tally = Unit {0}
 -- The promise of engines under one scale and one meter, over every list of calls from a fresh engine.
 pub record Promise (s : ScaleModel) (m : MeterModel) : Type 0 where
   -- whoever sees a level L and below cannot tell apart two engines whose lists of calls differ in private puts alone
-  pub private : (L : ℕ) → s.known L ≡ true → (cs ds : List Call) → All Possible cs → Pairs s m L fresh fresh cs ds → transcript s m L fresh cs ≡ transcript s m L fresh ds
+  pub private : (L : ℕ) → s.known L ≡ true → (cs ds : List Call) → AllByRecursion Possible cs → Pairs s m L fresh fresh cs ds → transcript s m L fresh cs ≡ transcript s m L fresh ds
   -- slips opened are slips carried, withdrawn and still out
   pub slips : (cs : List Call) → counted opening s m fresh cs ≡ counted carrying s m fresh cs + counted withdrawing s m fresh cs + still_out (after_all s m fresh cs).shared.out
   -- a tally answers those counts

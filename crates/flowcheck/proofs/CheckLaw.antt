@@ -20,7 +20,7 @@ use Rattle.flowcheck.specs.Laws.{Derivable, Breaks, NoLater, CheckLaw}
 use Rattle.flowcheck.specs.Walks.{or_else, walk}
 use Rattle.meter.specs.Meters.{MeterModel, Lawful}
 use Rattle.scale.specs.Scales.{ScaleModel}
-use Rattle.std.specs.List.{AllByRecursion as All}
+use Rattle.std.specs.List.{AllByRecursion}
 
 -- a fault that is the first from place 0 on is broken at its own place
 own_place : (B : ℕ → ℕ → Type 0) (f : CheckFault) → First B 0 f → B (check_refusal f).number (check_refusal f).place
@@ -75,13 +75,13 @@ module _ (s : ScaleModel) (m : MeterModel) (b : BookModel) where
       let k = unknown_none s 0 (b.clock ∷ b.levels) v.0 in
       let q = subst (Quiet g [] []) w.code_is (walk_quiet g 0 [] [] b.code v.1) in
       let f = whole_flows g nv w.program (all_formed nv w.program w.events_formed) q in
-      record { clock_known = k.0; levels_known = k.1; events_flow = subst (All (λ e. Flows g s.floor [] e)) (sym (events_are w)) f }
+      record { clock_known = k.0; levels_known = k.1; events_flow = subst (AllByRecursion (λ e. Flows g s.floor [] e)) (sym (events_are w)) f }
 
   derivable_accepted : Lawful m → WellFormed b → Derivable s m b → checking s m b ≡ None
   derivable_accepted l w d =
       let g = setting s m b in
       let nv = length b.levels in
-      let f = subst (All (λ e. Flows g s.floor [] e)) (events_are w) d.events_flow in
+      let f = subst (AllByRecursion (λ e. Flows g s.floor [] e)) (events_are w) d.events_flow in
       let q = flows_whole g l nv w.program (all_formed nv w.program w.events_formed) f in
       none_both (unknown s 0 (b.clock ∷ b.levels)) (walk g 0 [] [] b.code)
       (none_unknown s 0 (b.clock ∷ b.levels) (d.clock_known, d.levels_known))

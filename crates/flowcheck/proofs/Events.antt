@@ -9,16 +9,16 @@ use Rattle.flowcheck.proofs.Walking.{quiet_flows}
 use Rattle.flowcheck.specs.Flows.{Flows}
 use Rattle.flowcheck.specs.Walks.{Setting}
 use Rattle.meter.specs.Meters.{Lawful}
-use Rattle.std.specs.List.{AllByRecursion as All}
+use Rattle.std.specs.List.{AllByRecursion}
 
 -- where no rule is broken each event flows; behind a stop all starts anew
-pub whole_flows : (g : Setting) (nv : ℕ) (es : List Code) → All (λ e. Formed nv 8 0 e) es → Quiet g [] [] (whole es) → All (λ e. Flows g g.scale.floor [] e) es
+pub whole_flows : (g : Setting) (nv : ℕ) (es : List Code) → AllByRecursion (λ e. Formed nv 8 0 e) es → Quiet g [] [] (whole es) → AllByRecursion (λ e. Flows g g.scale.floor [] e) es
 whole_flows g nv [] a q = tt
 whole_flows g nv (e ∷ es) a q =
     let w = quiet_flows g a.0 [] [] (Stop ∷ whole es) refl refl (omega arith) q in
     (w.0, whole_flows g nv es a.1 w.1.1)
 
 -- where each event flows no rule is broken
-pub flows_whole : (g : Setting) → Lawful g.meter → (nv : ℕ) (es : List Code) → All (λ e. Formed nv 8 0 e) es → All (λ e. Flows g g.scale.floor [] e) es → Quiet g [] [] (whole es)
+pub flows_whole : (g : Setting) → Lawful g.meter → (nv : ℕ) (es : List Code) → AllByRecursion (λ e. Formed nv 8 0 e) es → AllByRecursion (λ e. Flows g g.scale.floor [] e) es → Quiet g [] [] (whole es)
 flows_whole g m nv [] a f = tt
 flows_whole g m nv (e ∷ es) a f = flows_quiet g m a.0 [] [] (Stop ∷ whole es) refl refl (omega arith) f.0 (stop_keeps g m [] [] (whole es), flows_whole g m nv es a.1 f.1)

@@ -7,10 +7,10 @@ use Rattle.refusal.specs.declared.check.CheckFault.{CheckFault}
 use Rattle.refusal.specs.declared.check.CheckFault.TheVariants.{Level}
 use Rattle.scale.specs.Scales.{ScaleModel}
 use Rattle.std.proofs.lemmas.Bool.{true≢false, cond-true}
-use Rattle.std.specs.List.{AllByRecursion as All}
+use Rattle.std.specs.List.{AllByRecursion}
 
 -- where none is unknown all are known
-pub unknown_none : (s : ScaleModel) (p : ℕ) (ls : List ℕ) → unknown s p ls ≡ None → All (λ l. s.known l ≡ true) ls
+pub unknown_none : (s : ScaleModel) (p : ℕ) (ls : List ℕ) → unknown s p ls ≡ None → AllByRecursion (λ l. s.known l ≡ true) ls
 unknown_none s p [] e = tt
 unknown_none s p (l ∷ ls) e =
     by_test (s.known l) (unknown s (p + 1) ls) (Some (Level p)) None
@@ -19,7 +19,7 @@ unknown_none s p (l ∷ ls) e =
     e
 
 -- and the other way round
-pub none_unknown : (s : ScaleModel) (p : ℕ) (ls : List ℕ) → All (λ l. s.known l ≡ true) ls → unknown s p ls ≡ None
+pub none_unknown : (s : ScaleModel) (p : ℕ) (ls : List ℕ) → AllByRecursion (λ l. s.known l ≡ true) ls → unknown s p ls ≡ None
 none_unknown s p [] a = refl
 none_unknown s p (l ∷ ls) a = cond-true (s.known l) (unknown s (p + 1) ls) (Some (Level p)) a.0 ∙ none_unknown s (p + 1) ls a.1
 

@@ -12,13 +12,13 @@ use Rattle.flowcheck.specs.Flows.{Flows}
 use Rattle.flowcheck.specs.Walks.{Setting, breaks_charge, breaks_direct, breaks_implicit, breaks_parts, contexts_after, levels_after}
 use Rattle.meter.specs.Meters.{MeterModel}
 use Rattle.scale.specs.Scales.{ScaleModel}
-use Rattle.std.specs.List.{AllByRecursion as All}
+use Rattle.std.specs.List.{AllByRecursion}
 
 -- every level is known, and every event can be derived by the flow rules
 pub record Derivable (s : ScaleModel) (m : MeterModel) (b : BookModel) : Type 0 where
   pub clock_known : s.known b.clock ≡ true
-  pub levels_known : All (λ l. s.known l ≡ true) b.levels
-  pub events_flow : All (λ e. Flows (setting s m b) s.floor [] e) (events b.code)
+  pub levels_known : AllByRecursion (λ l. s.known l ≡ true) b.levels
+  pub events_flow : AllByRecursion (λ e. Flows (setting s m b) s.floor [] e) (events b.code)
 
 -- the contexts and the levels on the stack behind some instructions
 pub record Reached : Type 0 where

@@ -11,7 +11,7 @@ use Rattle.machine.proofs.Starts.{event_ahead, event_is_at, event_is_none}
 use Rattle.machine.specs.Events.{event_at}
 use Rattle.std.proofs.lemmas.List.{length-append}
 use Rattle.std.proofs.lemmas.Bool.{cases_lt}
-use Rattle.std.specs.List.{AllByRecursion as All}
+use Rattle.std.specs.List.{AllByRecursion}
 
 -- event n starts at place p of code that is the code of these events
 pub record FoundAt (es : List Code) (code : List Instruction) (n p : ℕ) : Type 0 where
@@ -25,7 +25,7 @@ whole_split zero es = omega arith
 whole_split (suc n) [] = omega arith
 whole_split (suc n) (e ∷ es) = omega (arith, length-append (flat e) (Stop ∷ whole (take n es)), length-append (flat e) (Stop ∷ whole es), whole_split n es)
 
-found : (nv : ℕ) (es : List Code) → All (λ e. Formed nv 8 0 e) es → (n p : ℕ) → event_at n 0 (whole es) ≡ Some p → FoundAt es (whole es) n p
+found : (nv : ℕ) (es : List Code) → AllByRecursion (λ e. Formed nv 8 0 e) es → (n p : ℕ) → event_at n 0 (whole es) ≡ Some p → FoundAt es (whole es) n p
 found nv es a n p e = ⊎_elim there none (cases_lt n (length es))
   where
     there : n < length es → FoundAt es (whole es) n p
@@ -40,7 +40,7 @@ found nv es a n p e = ⊎_elim there none (cases_lt n (length es))
     none : length es ≤ n → FoundAt es (whole es) n p
     none h = absurd (none_some p (sym (event_is_none nv es a n 0 h) ∙ e))
 
-missing : (nv : ℕ) (es : List Code) → All (λ e. Formed nv 8 0 e) es → (n : ℕ) → event_at n 0 (whole es) ≡ None → length es ≤ n
+missing : (nv : ℕ) (es : List Code) → AllByRecursion (λ e. Formed nv 8 0 e) es → (n : ℕ) → event_at n 0 (whole es) ≡ None → length es ≤ n
 missing nv es a n e = ⊎_elim (λ h. absurd (some_none (0 + length (whole (take n es))) (sym (event_is_at nv es a n 0 h) ∙ e))) (λ h. h) (cases_lt n (length es))
 
 pub event_found : (nv : ℕ) (code : List Instruction) → sound nv code ≡ true → (n p : ℕ) → event_at n 0 code ≡ Some p → FoundAt (events code) code n p

@@ -3,7 +3,7 @@ use Rattle.std.proofs.Common.{◌≡◌, ℕ, zero, suc, true, List, [], ◌∷�
 use Rattle.flowcheck.specs.Walks.{Setting}
 use Rattle.meter.specs.Meters.{Lawful as MeterLaws}
 use Rattle.scale.specs.Scales.{ScaleModel, Lawful as ScaleLaws}
-use Rattle.std.specs.List.{AllByRecursion as All}
+use Rattle.std.specs.List.{AllByRecursion}
 
 -- an observer at level L sees level l
 abbrev pub Sees : ScaleModel → ℕ → ℕ → Type 0
@@ -15,7 +15,7 @@ Hidden s L l = Sees s L l → ⊥
 
 -- the scale knows these levels
 abbrev pub Known : ScaleModel → List ℕ → Type 0
-Known s ls = All (λ l. s.known l ≡ true) ls
+Known s ls = AllByRecursion (λ l. s.known l ≡ true) ls
 
 -- the scale and the meter of a setting keep their laws, and its levels are known
 pub record Sound (g : Setting) : Type 0 where

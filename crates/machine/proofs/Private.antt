@@ -16,14 +16,14 @@ use Rattle.machine.specs.Privacy.{RunPrivacy}
 use Rattle.steps.specs.Runs.{started}
 use Rattle.meter.specs.Meters.{MeterModel, Lawful}
 use Rattle.std.proofs.ByRecursion.{All-get_or}
-use Rattle.std.specs.List.{AllByRecursion as All}
+use Rattle.std.specs.List.{AllByRecursion}
 
 -- the events of a well-formed book are formed
-events_formed : (b : BookModel) → WellFormed b → All (λ e. Formed (length b.levels) 8 0 e) (events b.code)
+events_formed : (b : BookModel) → WellFormed b → AllByRecursion (λ e. Formed (length b.levels) 8 0 e) (events b.code)
 events_formed b w =
     let nv = length b.levels in
     let formed = all_formed nv w.program w.events_formed in
-    subst (All (λ e. Formed nv 8 0 e)) (sym (ap events w.code_is ∙ events_whole nv w.program formed)) formed
+    subst (AllByRecursion (λ e. Formed nv 8 0 e)) (sym (ap events w.code_is ∙ events_whole nv w.program formed)) formed
 
 -- The check's law says that the event keeps the flow rules, and these keep two machines close from its start to its end.
 pub run_private : (m : MeterModel) → Lawful m → RunPrivacy m

@@ -7,7 +7,7 @@ use Rattle.book.specs.Forms.{Formed, ends, number, figure, clock, operate, store
 use Rattle.book.specs.Trees.{Code, done, flat, whole, here, parse, stopping}
 use Rattle.machine.specs.Events.{event_at}
 use Rattle.std.proofs.lemmas.List.{append_assoc, drop_at, drop-drop, length-append}
-use Rattle.std.specs.List.{AllByRecursion as All}
+use Rattle.std.specs.List.{AllByRecursion}
 
 -- no event starts inside a stretch: by induction on how it is formed, as it has no stop
 pub event_flat : {nv d h : ℕ} {c : Code} → Formed nv d h c → (n p : ℕ) (is : List Instruction) → event_at (suc n) p (flat c ++ is) ≡ event_at (suc n) (p + length (flat c)) is
@@ -45,7 +45,7 @@ first_at : (is js : List Instruction) (i : Instruction) (p : ℕ) → event_at 0
 first_at [] js i p = refl
 first_at (x ∷ is) js i p = refl
 
-pub event_is_at : (nv : ℕ) (es : List Code) → All (λ e. Formed nv 8 0 e) es → (n p : ℕ) → n < length es → event_at n p (whole es) ≡ Some (p + length (whole (take n es)))
+pub event_is_at : (nv : ℕ) (es : List Code) → AllByRecursion (λ e. Formed nv 8 0 e) es → (n p : ℕ) → n < length es → event_at n p (whole es) ≡ Some (p + length (whole (take n es)))
 event_is_at nv [] a n p h = absurd (omega arith)
 event_is_at nv (e ∷ es) a zero p h = first_at (flat e) (whole es) Stop p ∙ ap Some (omega arith)
 event_is_at nv (e ∷ es) a (suc n) p h =
@@ -54,7 +54,7 @@ event_is_at nv (e ∷ es) a (suc n) p h =
     ∙ event_is_at nv es a.1 n (p + length (flat e) + 1) (omega arith)
     ∙ ap Some (omega (arith, t))
 
-pub event_is_none : (nv : ℕ) (es : List Code) → All (λ e. Formed nv 8 0 e) es → (n p : ℕ) → length es ≤ n → event_at n p (whole es) ≡ None
+pub event_is_none : (nv : ℕ) (es : List Code) → AllByRecursion (λ e. Formed nv 8 0 e) es → (n p : ℕ) → length es ≤ n → event_at n p (whole es) ≡ None
 event_is_none nv [] a n p h = refl
 event_is_none nv (e ∷ es) a zero p h = absurd (omega arith)
 event_is_none nv (e ∷ es) a (suc n) p h = event_flat a.0 n p (Stop ∷ whole es) ∙ event_is_none nv es a.1 n (p + length (flat e) + 1) (omega arith)
@@ -73,10 +73,10 @@ behind (suc n) (e ∷ es) =
     ∙ behind n es
 
 -- the stretch ahead there is the event
-pub event_ahead : (nv : ℕ) (es : List Code) → All (λ e. Formed nv 8 0 e) es → (n : ℕ) → n < length es → here (parse (drop (length (whole (take n es))) (whole es))) ≡ get_or es n done
+pub event_ahead : (nv : ℕ) (es : List Code) → AllByRecursion (λ e. Formed nv 8 0 e) es → (n : ℕ) → n < length es → here (parse (drop (length (whole (take n es))) (whole es))) ≡ get_or es n done
 event_ahead nv es a n h = ap (λ is. here (parse is)) (behind n es) ∙ ahead_of es a n h
   where
-    ahead_of : (es : List Code) → All (λ e. Formed nv 8 0 e) es → (n : ℕ) → n < length es → here (parse (whole (drop n es))) ≡ get_or es n done
+    ahead_of : (es : List Code) → AllByRecursion (λ e. Formed nv 8 0 e) es → (n : ℕ) → n < length es → here (parse (whole (drop n es))) ≡ get_or es n done
     ahead_of [] a n h = absurd (omega arith)
     ahead_of (e ∷ es) a zero h = ap here (parse_flat a.0 stopping (whole es))
     ahead_of (e ∷ es) a (suc n) h = ahead_of es a.1 n (omega arith)
