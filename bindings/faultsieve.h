@@ -1,6 +1,6 @@
 /* Faultsieve for C: checks rule books, and drives the engine that runs them by a script of calls.
  *
- * Link libexports.a, which `rt staticlib exports` writes to target/staticlib, and librattle_c.a of the Rattle kit,
+ * Link libexports.a, which `rt lib` writes to crates/exports/out, and liblibc_c.a of the Rattle kit,
  * through which it calls malloc and free. README.md beside this file has the commands.
  *
  * A call reads the bytes of its input and writes to its buffer, and keeps no pointer and no state for later calls.
