@@ -7,15 +7,23 @@ use Rattle.meter.specs.Cards.{card}
 use Rattle.meter.specs.Meters.{MeterModel}
 use Rattle.refusal.specs.Makers.{maker_refusal}
 use Rattle.refusal.specs.declared.MakerFault.TheVariants.{Ranks}
+use Rattle.refusal.specs.declared.MakerFault.{MakerFault}
 use Rattle.scale.specs.Ladders.{ladder}
 use Rattle.scale.specs.Scales.{ScaleModel}
 use Rattle.script.specs.Asked.{Ask, scale as askScale, meter as askMeter, call}
-use Rattle.script.specs.Chosen.{meter_made, meter_of, scale_made, scale_of}
+use Rattle.script.specs.Calls.{call_of}
+use Rattle.script.specs.Chosen.{MeterMade, meter_made, meter_of, ScaleMade, scale_made, scale_of}
 use Rattle.script.specs.Replies.{reply_to}
+use Rattle.script.specs.declared.call.Call.{Call as ScriptCall}
+use Rattle.script.specs.declared.chosen.ChosenMeter.{ChosenMeter}
+use Rattle.script.specs.declared.chosen.ChosenScale.{ChosenScale}
+use Rattle.script.specs.declared.command.Command.TheVariants.{Scale, Meter, Call}
+use Rattle.script.specs.declared.command.Command.{Command}
 use Rattle.script.specs.declared.console.Console.{Console}
+use Rattle.script.specs.declared.desk.Desk.{Desk}
 use Rattle.script.specs.declared.reply.Reply.TheVariants.{Done, Refused, Unreadable}
 use Rattle.script.specs.declared.reply.Reply.{Reply}
-use Rattle.std.specs.Prelude.{Some, None, Option}
+use Rattle.std.specs.Prelude.{◌≡◌, Some, None, Ok, Err, Option, Result}
 
 -- a scale, a meter and the engine under them
 pub record ConsoleModel : Type 0 where
@@ -70,3 +78,30 @@ heeding c (Some x) = obeying c x
 abbrev pub replying_to : ConsoleModel → Option Ask → Reply
 replying_to c None = Unreadable
 replying_to c (Some x) = replying c x
+
+-- a desk with a fresh engine under a scale and a meter
+abbrev pub Fresh : Desk → ChosenScale → ChosenMeter → Type 0
+Fresh d s m = (engine_of d.engine ≡ fresh) × (d.engine.scale ≡ s) × (d.engine.meter ≡ m)
+
+-- a scale that was made is the console's from now on, under a fresh engine; one that was not changes nothing
+abbrev pub Rescaled : Result ChosenScale MakerFault → Console → Console → Reply → Type 0
+Rescaled (Ok s) before after r = (after.scale ≡ s) × (after.meter ≡ before.meter) × Fresh after.desk s before.meter × (r ≡ Done)
+Rescaled (Err e) before after r = (after ≡ before) × (r ≡ Refused (maker_refusal e))
+
+-- the same of a meter
+abbrev pub Remetered : Result ChosenMeter MakerFault → Console → Console → Reply → Type 0
+Remetered (Ok m) before after r = (after.scale ≡ before.scale) × (after.meter ≡ m) × Fresh after.desk before.scale m × (r ≡ Done)
+Remetered (Err e) before after r = (after ≡ before) × (r ≡ Refused (maker_refusal e))
+
+-- a call is one step of the engine on the desk, and its answer is the reply
+abbrev pub Called : Desk → Desk → ScriptCall → Reply → Type 0
+Called before after x r =
+    (r ≡ reply_to (answer (scale_of before.engine.scale) (meter_of before.engine.meter) (engine_of before.engine) (call_of x)))
+    × (engine_of after.engine ≡ next (scale_of before.engine.scale) (meter_of before.engine.meter) (engine_of before.engine) (call_of x))
+    × (after.engine.scale ≡ before.engine.scale) × (after.engine.meter ≡ before.engine.meter)
+
+-- what a line asks for is done
+abbrev pub Obeyed : Command → Console → Console → Reply → Type 0
+Obeyed (Scale x) before after r = (made : Result ChosenScale MakerFault) × ScaleMade x made × Rescaled made before after r
+Obeyed (Meter x) before after r = (made : Result ChosenMeter MakerFault) × MeterMade x made × Remetered made before after r
+Obeyed (Call x) before after r = Called before.desk after.desk x r × (after.scale ≡ before.scale) × (after.meter ≡ before.meter)

@@ -1,5 +1,5 @@
 // The scale and the meter that a script chose, each of one of two kinds. One engine type serves them all.
-ghost use Rattle.script.specs.Chosen.{meter_made, meter_of, scale_made, scale_of};
+ghost use Rattle.script.specs.Chosen.{MeterMade, meter_made, meter_of, ScaleMade, scale_made, scale_of};
 ghost use Rattle.std.specs.Option.{option_map};
 ghost use Rattle.std.specs.Result.{result_ok};
 ghost use Rattle.std.specs.Prelude.{◌≡◌};
@@ -27,7 +27,8 @@ pub(crate) enum ChosenMeter {
 
 // Makes the scale of a choice.
 pub(crate) fn make_scale(choice: ScaleChoice) -> Result<ChosenScale, MakerFault>
-    ensures { option_map scale_of (result_ok result) ≡ scale_made choice }
+    ensures made { ScaleMade choice result }
+    ensures model { option_map scale_of (result_ok result) ≡ scale_made choice }
 {
     match choice {
         ScaleChoice::Ladder(ranks) => Ok(ChosenScale::Ladder(Ladder::new(ranks)?)),
@@ -37,7 +38,8 @@ pub(crate) fn make_scale(choice: ScaleChoice) -> Result<ChosenScale, MakerFault>
 
 // Makes the meter of a choice.
 pub(crate) fn make_meter(choice: MeterChoice) -> Result<ChosenMeter, MakerFault>
-    ensures { option_map meter_of (result_ok result) ≡ meter_made choice }
+    ensures made { MeterMade choice result }
+    ensures model { option_map meter_of (result_ok result) ≡ meter_made choice }
 {
     match choice {
         MeterChoice::Card(charges) => {

@@ -1,10 +1,13 @@
 // What a console does, line by line.
+ghost use Rattle.house.specs.Rulings.{ones};
+ghost use Rattle.meter.specs.Cards.{card};
+ghost use Rattle.scale.specs.Ladders.{ladder};
 ghost use Rattle.script.specs.Asked.{scale as askScale, meter as askMeter};
 ghost use Rattle.script.specs.Calls.{ask_of};
-ghost use Rattle.script.specs.Chosen.{meter_of, scale_of};
-ghost use Rattle.script.specs.Consoles.{console_of, obeying, opened, renewed, replying};
+ghost use Rattle.script.specs.Chosen.{MeterMade, meter_of, ScaleMade, scale_of};
+ghost use Rattle.script.specs.Consoles.{console_of, Fresh, Obeyed, obeying, opened, Remetered, renewed, replying, Rescaled};
 ghost use Rattle.script.specs.Scripts.{after as consoleAfter, reply as reply_to};
-ghost use Rattle.std.specs.Prelude.{◌≡◌, MatchResult};
+ghost use Rattle.std.specs.Prelude.{◌≡◌, MatchResult, Result};
 
 use crate::chosen::{ChosenMeter, ChosenScale, make_meter, make_scale};
 use crate::command::{Command, MeterChoice, ScaleChoice};
@@ -14,12 +17,16 @@ use crate::fault::LineFault;
 use crate::reply::Reply;
 use crate::text::is_remark;
 use house::{card_of_ones, two_ranks};
+use refusal::MakerFault;
 use std::alloc::{AllocError, Global};
 
 impl Console {
     // A console as a script finds it: a ladder of two ranks, a card of ones and a fresh engine.
     pub fn new() -> Console
-        ensures { console_of result ≡ opened }
+        ensures scale { scale_of result.scale ≡ ladder 2 }
+        ensures meter { meter_of result.meter ≡ card ones }
+        ensures desk { Fresh result.desk result.scale result.meter }
+        ensures model { console_of result ≡ opened }
     {
         let scale = ChosenScale::Ladder(two_ranks());
         let meter = ChosenMeter::Card(card_of_ones());
@@ -32,7 +39,9 @@ impl Console {
 
     // Puts a fresh engine in the place of the old one.
     fn renew(&mut self, scale: ChosenScale, meter: ChosenMeter)
-        ensures { console_of self.new ≡ renewed (scale_of scale) (meter_of meter) }
+        ensures desk { Fresh self.new.desk scale meter }
+        ensures kept { (self.new.scale ≡ scale) × (self.new.meter ≡ meter) }
+        ensures model { console_of self.new ≡ renewed (scale_of scale) (meter_of meter) }
     {
         let old = std::mem::replace(&mut self.desk, Desk::new(scale, meter));
         self.scale = scale;
@@ -42,6 +51,7 @@ impl Console {
 
     // Chooses another scale.
     fn set_scale(&mut self, choice: ScaleChoice) -> Reply
+        ensures rescaled { (made : Result ChosenScale MakerFault) × ScaleMade choice made × Rescaled made self.old self.new result }
         ensures reply { result ≡ replying (console_of self.old) (askScale choice) }
         ensures after { console_of self.new ≡ obeying (console_of self.old) (askScale choice) }
     {
@@ -57,6 +67,7 @@ impl Console {
 
     // Chooses another meter.
     fn set_meter(&mut self, choice: MeterChoice) -> Reply
+        ensures remetered { (made : Result ChosenMeter MakerFault) × MeterMade choice made × Remetered made self.old self.new result }
         ensures reply { result ≡ replying (console_of self.old) (askMeter choice) }
         ensures after { console_of self.new ≡ obeying (console_of self.old) (askMeter choice) }
     {
@@ -72,6 +83,7 @@ impl Console {
 
     // Does what a line asks for.
     fn obey(&mut self, command: &Command) -> Reply
+        ensures obeyed { Obeyed command.now self.old self.new result }
         ensures reply { result ≡ replying (console_of self.old) (ask_of command.now) }
         ensures after { console_of self.new ≡ obeying (console_of self.old) (ask_of command.now) }
     {

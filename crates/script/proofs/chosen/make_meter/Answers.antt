@@ -7,8 +7,8 @@ use Rattle.std.proofs.lemmas.Bool.{cond-false}
 use Rattle.std.specs.Option.{option_map}
 
 -- a charge above 1000
-pub returns-in_err-fill-in-Card : goal.returns-in_err-fill-in-Card
-returns-in_err-fill-in-Card c =
+pub returns-in_err-fill-in-Card-clause-model : goal.returns-in_err-fill-in-Card-clause-model
+returns-in_err-fill-in-Card-clause-model c =
     let charges = c.in-Card.charges in
     let high = c.in_err-fill-in-Card.ensures.0 in
     ap (option_map meter_of) (no_part c.from_residual.result _ c.from_residual.ensures.1)
