@@ -153,13 +153,3 @@ going m nv code fine = record {
   past = goes_past m code;
   jumps = jump_fits nv code fine;
 }
-
--- A slice that holds the code: a place of it, what stands there, and a step that goes on from there.
-pub in_code : {is code : List Instruction} {p : ℕ} → is ≡ code → p < length is → p < length code
-in_code e h = omega (arith, ap length e, h)
-
-pub at_place : {is code : List Instruction} {i : Instruction} (p : ℕ) → is ≡ code → get_or is p Stop ≡ i → get_or code p Stop ≡ i
-at_place p e h = ap (λ xs. get_or xs p Stop) (sym e) ∙ h
-
-pub onward : {is code : List Instruction} {p : ℕ} {i : Instruction} {x y : Machine} → is ≡ code → p < length is → get_or is p Stop ≡ i → (p < length code → get_or code p Stop ≡ i → x ≡ y) → y ≡ x
-onward {p} e h j step = sym (step (in_code e h) (at_place p e j))

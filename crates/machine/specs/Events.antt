@@ -1,5 +1,5 @@
 -- Where an event starts.
-use Rattle.std.specs.Prelude.{ℕ, zero, suc, ◌+◌, Bool, true, false, cond, List, [], ◌∷◌, Some, None, Option}
+use Rattle.std.specs.Prelude.{ℕ, zero, suc, ◌+◌, cond, List, [], ◌∷◌, Some, None, Option}
 use Rattle.book.specs.declared.instruction.Instruction.{Instruction}
 use Rattle.book.specs.Reads.{is_stop}
 
@@ -8,9 +8,3 @@ abbrev pub event_at : ℕ → ℕ → List Instruction → Option ℕ
 event_at n p [] = None
 event_at zero p (i ∷ is) = Some p
 event_at (suc n) p (i ∷ is) = cond (is_stop i) (event_at n (p + 1) is) (event_at (suc n) (p + 1) is)
-
--- the places where events start, from place p on; whether one starts at p comes first
-abbrev pub starts_from : Bool → ℕ → List Instruction → List ℕ
-starts_from b p [] = []
-starts_from true p (i ∷ is) = p ∷ starts_from (is_stop i) (p + 1) is
-starts_from false p (i ∷ is) = starts_from (is_stop i) (p + 1) is

@@ -3,7 +3,6 @@ pub mod Events
 pub mod Ran
 pub mod Rules
 pub mod Jumps
-pub mod Blocks
 pub mod Bounds
 pub mod Privacy
 pub mod Strictness

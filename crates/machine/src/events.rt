@@ -9,6 +9,7 @@ ghost use Rattle.std.specs.Prelude.{◌≡◌};
 
 use crate::program::Program;
 use meter::meter::Meter;
+use steps::machine::Machine;
 use steps::state::State;
 
 // Changes nothing: a call brings the laws of running into its caller's proof.
@@ -32,7 +33,9 @@ impl Program {
         let Some(start) = self.start_of(event) else {
             return false;
         };
-        self.run_from(meter, start, state);
+        let mut machine = Machine::new(state);
+        self.run_from(meter, start, &mut machine);
+        machine.rest(state);
         true
     }
 }

@@ -1,7 +1,6 @@
 // The machine that runs one event of a book: exact amounts and an exact clock, for every meter.
 #![tactic(auto)]
 
-mod event_starts;
 mod events;
 mod jumps;
 pub mod program;

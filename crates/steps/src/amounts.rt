@@ -1,6 +1,6 @@
 // Operations on amounts, which stay at the nearer end of the 32-bit range.
-ghost use Rattle.steps.specs.Amounts.{divided, nearest, operate as operateBy};
-ghost use Rattle.std.specs.Prelude.{◌≡◌, ◌*ℤ◌};
+ghost use Rattle.steps.specs.Amounts.{divided, operate as operateBy};
+ghost use Rattle.std.specs.Prelude.{◌≡◌};
 
 use book::instruction::Operation;
 
@@ -17,33 +17,13 @@ fn divide(first: i32, second: i32) -> i32
     }
 }
 
-// The amount nearest to a number.
-fn nearest_to(number: i64) -> i32
-    ensures { result ≡ nearest number }
-{
-    if number > 2_147_483_647 {
-        i32::MAX
-    } else if number < -2_147_483_648 {
-        i32::MIN
-    } else {
-        number as i32
-    }
-}
-
-// A product that stays in the range of amounts. In 64 bits it always fits.
-fn multiply(first: i32, second: i32) -> i32
-    ensures { result ≡ nearest (first *ℤ second) }
-{
-    nearest_to(i64::from(first) * i64::from(second))
-}
-
 pub(crate) fn operate(operation: Operation, first: i32, second: i32) -> i32
     ensures { result ≡ operateBy operation first second }
 {
     match operation {
         Operation::Add => first.saturating_add(second),
         Operation::Subtract => first.saturating_sub(second),
-        Operation::Multiply => multiply(first, second),
+        Operation::Multiply => first.saturating_mul(second),
         Operation::Divide => divide(first, second),
         Operation::Less => { if first < second { 1 } else { 0 } }
         Operation::Equal => { if first == second { 1 } else { 0 } }

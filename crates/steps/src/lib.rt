@@ -3,6 +3,8 @@
 #![tactic(auto)]
 
 mod amounts;
+mod ends;
+mod events;
 mod ledger;
 pub mod machine;
 pub mod state;

@@ -1,19 +1,12 @@
-use Rattle.std.proofs.Common.{◌≡◌, ℕ, ◌+◌, ◌-◌, length, take, drop, subst, arith, rules}
-use Rattle.book.specs.declared.instruction.Instruction.TheVariants.{Stop}
+use Rattle.std.proofs.Common.{◌+◌, length, refl, arith, rules}
+use Rattle.book.proofs.Rows.{row_more}
 use Rattle.machine.proofs.ready.jumps_of.Goals as goal
-use Rattle.machine.proofs.Tables.{row_less}
-use Rattle.machine.specs.Jumps.{jumps_from}
-use Rattle.std.proofs.lemmas.List.{drop_more}
+use Rattle.machine.specs.Jumps.{jump_from, jumps_from}
 
 pub loop-place-preserved : goal.loop-place-preserved
 loop-place-preserved c =
     let code = c.args.code.now in
-    let l = c.loop-place in
-    let n = length code in
-    let p = l.place - 1 in
-    let behind : l.place ≡ p + 1 = omega arith in
-    let filled = subst (λ (k : ℕ). take (n - k) (drop k l.row) ≡ jumps_from code (n - k) k) behind l.invariant.2 in (
+    let l = c.loop-place in (
       search rules,
-      rw (drop_more code p Stop (omega arith)) (c.step_back.ensures (drop (p + 1) code) (search rules)),
-      row_less code l.row n p c.jump_at.result (omega arith) (omega arith) c.jump_at.ensures filled,
+      row_more (λ n p. jumps_from code n p) (jump_from code) 1 (λ n p. refl) l.row _ (length code) l.place l.place (l.place + 1) c.jump_from.result (omega arith) (omega arith) refl c.jump_from.ensures.to l.invariant.1,
     )

@@ -5,8 +5,8 @@ use Rattle.book.specs.Trees.{here, parse}
 use Rattle.machine.proofs.program.Program.+run_from_take_turns.Given as goal
 use Rattle.machine.proofs.Through.{through}
 use Rattle.steps.specs.Machines.{perform}
-use Rattle.steps.specs.Runs.{exec, left, started, times}
-use Rattle.steps.specs.Seen.{machine_with, state_of}
+use Rattle.steps.specs.Runs.{exec, times}
+use Rattle.steps.specs.Seen.{machine_of}
 
 abbrev pub decreases-run_from : goal.decreases-run_from
 decreases-run_from g l = 2 * (length (said l.self.now.book).code - l.from)
@@ -19,12 +19,12 @@ invariant-run_from-loop-place g l =
     (l.from ≤ l.place)
     × (l.place ≤ length l.code)
     × (l.ifs ≤ l.place)
-    × (through (g.M.Meter.meaning l.meter) l.ifs (parse (drop l.place (said l.self.book).code)) (machine_with l.machine l.row (state_of l.state).figures) ≡ exec (g.M.Meter.meaning l.meter) (here (parse (drop l.from (said l.self.book).code))) (started (state_of l.initial.state)))
+    × (through (g.M.Meter.meaning l.meter) l.ifs (parse (drop l.place (said l.self.book).code)) (machine_of l.machine) ≡ exec (g.M.Meter.meaning l.meter) (here (parse (drop l.from (said l.self.book).code))) (machine_of l.initial.machine))
 
 abbrev pub decreases-run_from-loop-place : goal.decreases-run_from-loop-place
 decreases-run_from-loop-place g l = length l.code - l.place
 
 abbrev pub invariant-take_turns-loop : goal.invariant-take_turns-loop
 invariant-take_turns-loop g l =
-    left (times (l.count - l.counter) (λ t. exec (g.M.Meter.meaning l.meter) (here (parse (drop l.from (said l.self.book).code))) (perform (g.M.Meter.meaning l.meter) (Repeat l.count) t)) (started (state_of l.state)))
-    ≡ left (times l.count (λ t. exec (g.M.Meter.meaning l.meter) (here (parse (drop l.from (said l.self.book).code))) (perform (g.M.Meter.meaning l.meter) (Repeat l.count) t)) (started (state_of l.initial.state)))
+    times (l.count - l.counter) (λ t. exec (g.M.Meter.meaning l.meter) (here (parse (drop l.from (said l.self.book).code))) (perform (g.M.Meter.meaning l.meter) (Repeat l.count) t)) (machine_of l.machine)
+    ≡ times l.count (λ t. exec (g.M.Meter.meaning l.meter) (here (parse (drop l.from (said l.self.book).code))) (perform (g.M.Meter.meaning l.meter) (Repeat l.count) t)) (machine_of l.initial.machine)

@@ -2,8 +2,7 @@ use Rattle.std.proofs.Common.{sym, refl, ap, ◌∙◌}
 use Rattle.reader.specs.Books.{said}
 use Rattle.machine.proofs.Found.{event_found, event_missing}
 use Rattle.machine.proofs.program.Program.run.Goals as goal
-use Rattle.steps.specs.Runs.{exec, left, started}
-use Rattle.steps.specs.Seen.{state_of}
+use Rattle.steps.specs.Runs.{exec, left}
 
 pub returns-in_default : goal.returns-in_default
 returns-in_default g c =
@@ -26,7 +25,7 @@ returns g c =
     let m = g.M.Meter.meaning c.args.meter.now in
     let found = event_found b.figures (said b).code b.formed c.args.event c.in-Some.start (sym c.start_of.ensures ∙ c.in-Some.is) in
     record {
-      ran = (found.within, c.run_from.ensures ∙ ap (λ e. left (exec m e (started (state_of c.args.state.now)))) found.stretch);
+      ran = (found.within, c.rest.ensures ∙ ap left (c.run_from.ensures ∙ (λ i. exec m (found.stretch i) (c.new-machine.ensures i))));
       law = c.run_laws.ensures.law;
       bound = c.run_laws.ensures.bound;
       privacy = c.run_laws.ensures.privacy;
