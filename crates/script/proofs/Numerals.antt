@@ -44,7 +44,7 @@ module _ {E : Type 0} (bits : ℕ) (w : List ℕ) (Blamed Spelled : List ℕ →
   natural_reads (Err Malformed) (inl plus) = numeral_none (2 ^ bits) w (λ digits some small. first_digit w 43 digits some (λ i. omega arith) plus)
   natural_reads (Err Malformed) (inr (e, h)) =
       numeral_none (2 ^ bits) w (λ digits some small. parse_digits own {E = E} bits w (Err e) h.0 digits (some, small))
-  natural_reads (Err Memory) h = absurd h
+  natural_reads (Err (Memory error)) h = absurd h
 
 module _ {E : Type 0} (w : List ℕ) (Blamed Spelled : List ℕ → Result ℤ E → Type 0) where
   abbrev parses_signed : List ℕ → Result ℤ E → Type 0
@@ -79,4 +79,4 @@ module _ {E : Type 0} (w : List ℕ) (Blamed Spelled : List ℕ → Result ℤ E
   integer_reads (Err Malformed) (inl plus) =
       above (λ minus. omega arith) ∙ ap (option_map pos) (numeral_none (2 ^ 31) w (λ digits some small. first_digit w 43 digits some (λ i. omega arith) plus))
   integer_reads (Err Malformed) (inr (e, h)) = integer_err e h (cases_eq (get_or w 0 0) 45)
-  integer_reads (Err Memory) h = absurd h
+  integer_reads (Err (Memory error)) h = absurd h

@@ -37,10 +37,10 @@ integer w = cond (slice_index w 0 == 45) (option_map (λ n. neg_ℤ (pos n)) (nu
 abbrev pub Reads : {X Y : Type 0} → (X → Y) → Option Y → Result X LineFault → Type 0
 Reads meaning spelled (Ok x) = spelled ≡ Some (meaning x)
 Reads meaning spelled (Err Malformed) = spelled ≡ None
-Reads meaning spelled (Err Memory) = Unit {0}
+Reads meaning spelled (Err (Memory error)) = Unit {0}
 
 -- What a reader of numbers answers that takes a text as `parse` does, but for a plus (byte 43) in front.
 abbrev pub Numbered : {F E : Type 0} → (List ℕ → Result F E → Type 0) → List ℕ → Result F LineFault → Type 0
 Numbered parses w (Ok n) = (slice_index w 0 ≢ 43) × parses w (Ok n)
 Numbered {E = E} parses w (Err Malformed) = (slice_index w 0 ≡ 43) ⊎ ((e : E) × parses w (Err e))
-Numbered parses w (Err Memory) = ⊥
+Numbered parses w (Err (Memory error)) = ⊥

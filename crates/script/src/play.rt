@@ -29,9 +29,7 @@ fn answer_all(heap: Global, console: &mut Console, script: &[u8]) -> Result<Stri
     while rest.len() > 0 {
         let (line, more) = cut(rest);
         if let Some(reply) = console.answer(heap, line)? {
-            if transcript.writeln(reply).is_err() {
-                return Err(AllocError);
-            }
+            transcript.writeln(reply)?;
         }
         rest = more;
     }

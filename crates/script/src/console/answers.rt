@@ -104,7 +104,7 @@ impl Console {
         match Command::parse(heap, line) {
             Ok(command) => Ok(Some(self.obey(&command))),
             Err(LineFault::Malformed) => Ok(Some(Reply::Unreadable)),
-            Err(LineFault::Memory) => Err(AllocError),
+            Err(LineFault::Memory(error)) => Err(error),
         }
     }
 

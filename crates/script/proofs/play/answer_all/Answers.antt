@@ -1,4 +1,4 @@
-use Rattle.std.proofs.Common.{◌≡◌, ℕ, Bool, false, cond, List, ◌++◌, is_err, IfOk, Some, Ok, Err, string_bytes, Option, Result, sym, ap, ◌∙◌, arith}
+use Rattle.std.proofs.Common.{◌≡◌, ℕ, List, ◌++◌, Some, string_bytes, Option, sym, ap, ◌∙◌, arith}
 use Rattle.script.proofs.play.answer_all.Goals as goal
 use Rattle.script.proofs.Plays.{answers_more}
 use Rattle.script.specs.Consoles.{console_of}
@@ -6,18 +6,13 @@ use Rattle.script.specs.declared.reply.Reply.{Reply}
 use Rattle.script.specs.Scripts.{answers, lines_of, printed}
 use Rattle.std.proofs.lemmas.List.{append-nil, nil_from_length}
 
--- what was written, since nothing failed
-sent : {T E : Type 0} (r : Result T E) (P : Type 0) → is_err r ≡ false → IfOk r (λ _. P) → P
-sent (Ok x) P none p = p
-sent (Err e) P none p = let z : ◌≡◌ {A = ℕ} 1 0 = ap (λ (b : Bool). cond b 1 0) none in absurd (omega arith)
-
 -- a reply is written behind the others
-pub loop-rest-preserved-else-is_err : goal.loop-rest-preserved-else-is_err
-loop-rest-preserved-else-is_err c =
+pub loop-rest-preserved-in_ok-writeln : goal.loop-rest-preserved-in_ok-writeln
+loop-rest-preserved-in_ok-writeln c =
     let text = string_bytes c.loop-rest.transcript in
     let longer = string_bytes c.writeln.new.self in
     let reply = c.in-Some.reply in
-    let line : longer ≡ text ++ printed (Some reply) = sent c.writeln.result (longer ≡ text ++ printed (Some reply)) (sym c.if-is_err.ensures.value) c.writeln.ensures.bytes in
+    let line : longer ≡ text ++ printed (Some reply) = c.in_ok-writeln.ensures.bytes in
     let grown : longer ≡ text ++ printed c.in_ok-reply.field-0 = line ∙ ap (λ (r : Option Reply). text ++ printed r) (sym c.in-Some.is) in
     let said = c.in_ok-reply.ensures in
     answers_more c.loop-rest.rest.now c.cut.result.0.now c.cut.result.1.now text longer (answers (console_of c.args.console.now) (lines_of c.args.script.now)) (console_of c.loop-rest.console) (console_of c.answer.new.self) c.in_ok-reply.field-0 c.loop-rest.invariant c.cut.ensures.lines said.0 said.1 grown
