@@ -4,7 +4,7 @@
 usage: python3 tools/respell.py [--list]     at the top of the repository, once, after the port's own script
 
 A name counts as the repository's own if a file of specs/ or proofs/ defines it, and no file takes it from the library.
-Names of goals belong to the toolchain. Of its own names, those such as fooBar and foo-bar are written foo_bar. A dash stays behind the name of a fact, and behind `length`, where it joins two names.
+Names of goals belong to the toolchain. Of its own names, those such as fooBar and foo-bar are written foo_bar, and so are the names that a file gives to what it imports. A dash stays behind the name of a fact, and behind `length`, where it joins two names.
 Types keep their camel case, and functions of src/ keep their names. --list prints old and new names, and changes nothing.
 The crate `check` becomes `flowcheck`: the toolchain has a library of the old name.
 """
@@ -25,6 +25,7 @@ OTHERWISE = {
     "carriedOn": "carried_openly",
     "end-behind": "end_behind_lem",
     "events-ahead": "events_ahead_lem",
+    "length-refused": "length_refused",
     "same-paper": "same_paper_lem",
     "second-part": "second_part_lem",
 }
@@ -96,7 +97,28 @@ def main():
             with open(path, "w", encoding="utf-8") as f:
                 f.write(new)
     print(f"respell: {len(words)} names, {changed} files")
+    respell_aliases()
     rename_crate()
+
+
+# A name that a file gives to what it imports.
+ALIAS = re.compile(r"\bas ([a-z]+[A-Z]\w*)(?=\s*[,}])")
+
+
+def respell_aliases():
+    for path in glob.glob("crates/**/*.antt", recursive=True) + glob.glob("crates/**/*.rt", recursive=True):
+        if "/out/" in path:
+            continue
+        with open(path, encoding="utf-8") as f:
+            old = f.read()
+        words = {name: snake(name) for name in ALIAS.findall(old)}
+        for name, new in words.items():
+            if re.search(rf"(?<![\w'-]){new}(?![\w'-])", old):
+                sys.exit(f"{path}: {new} is there already")
+        new = TOKEN.sub(lambda m: words.get(m.group(0), m.group(0)), old)
+        if new != old:
+            with open(path, "w", encoding="utf-8") as f:
+                f.write(new)
 
 
 # The crate that has the name of one of the toolchain's libraries.

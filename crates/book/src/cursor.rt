@@ -1,7 +1,7 @@
 // A place in code, and looking ahead from it.
 ghost use Rattle.std.specs.Prelude.{◌≡◌, ◌+◌, ◌^◌, ◌<◌, length, drop};
 ghost use Rattle.book.specs.Sights.{Sees};
-ghost use Rattle.book.specs.Looks.{ElseLaw, is_if, matching_else, seek as seekFrom};
+ghost use Rattle.book.specs.Looks.{ElseLaw, is_if, matching_else, seek as seek_from};
 
 use crate::instruction::Instruction;
 
@@ -91,7 +91,7 @@ fn look_at(instruction: Instruction, depth: usize) -> Sight
 impl Lookahead<'_> {
     // The first else outside the blocks that open on the way.
     fn seek(&mut self, code: &[Instruction]) -> Option<usize>
-        ensures found { result ≡ seekFrom 0 self.old.cursor.now.place (drop self.old.cursor.now.place code.now) }
+        ensures found { result ≡ seek_from 0 self.old.cursor.now.place (drop self.old.cursor.now.place code.now) }
         ensures start { self.new.start ≡ self.old.start }
         ensures lent { self.new.cursor.ghost_name ≡ self.old.cursor.ghost_name }
     {

@@ -129,7 +129,7 @@ pub record WorkedBooks : Type 0 where
   pub inside_refused : verdict_with card_of_ones uneven_inside ≡ Refused (check 11 3)
   pub inside_accepted : verdict_with card_of_ones evened_inside ≡ Accepted 1
   -- parts are compared by their ticks and not by their numbers of instructions
-  pub length-refused : verdict_with card_of_ones same_length ≡ Refused (check 11 1)
+  pub length_refused : verdict_with card_of_ones same_length ≡ Refused (check 11 1)
   pub time_accepted : verdict_with card_of_ones same_time ≡ Accepted 1
   -- the lines of two of these verdicts
   pub refused_line : line (verdict_with card_of_ones uneven) ≡ codes "refused 11 check 1\n"

@@ -9,7 +9,7 @@ ghost use Rattle.flowcheck.specs.Checks.{checking, checking_bytes, setting, unkn
 ghost use Rattle.flowcheck.specs.Laws.{CheckLaw};
 ghost use Rattle.flowcheck.specs.Parts.{PartTolls};
 ghost use Rattle.flowcheck.specs.Tolls.{second_ahead, toll};
-ghost use Rattle.flowcheck.specs.Walks.{fault_at, walk as walkFrom};
+ghost use Rattle.flowcheck.specs.Walks.{fault_at, walk as walk_from};
 ghost use Rattle.stack.specs.Stacks.{held};
 
 use crate::tolls::toll_from;
@@ -114,7 +114,7 @@ fn fault_at<S: Scale, M: Meter>(
 
 // The first rule that is broken on an instruction.
 fn flow_fault<S: Scale, M: Meter>(scale: &S, meter: &M, book: &Book) -> Option<CheckFault>
-    ensures { result ≡ walkFrom (setting (S.Scale.meaning scale.now) (M.Meter.meaning meter.now) (said book.now)) 0 [] [] (said book.now).code }
+    ensures { result ≡ walk_from (setting (S.Scale.meaning scale.now) (M.Meter.meaning meter.now) (said book.now)) 0 [] [] (said book.now).code }
 {
     let mut walk = Walk::new();
     for place in 0..book.code().len() {

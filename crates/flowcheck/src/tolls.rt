@@ -1,6 +1,6 @@
 // Tolls: the ticks of a stretch of code at operands 0, worked out without running it.
 ghost use Rattle.std.specs.Prelude.{◌≡◌, ◌+◌, ◌*◌, ◌≤◌, [], length, drop};
-ghost use Rattle.flowcheck.specs.Tolls.{added as addedBy, closes_all, fit, tolled, turns_after, turns_of};
+ghost use Rattle.flowcheck.specs.Tolls.{added as added_by, closes_all, fit, tolled, turns_after, turns_of};
 ghost use Rattle.stack.specs.Stacks.{held};
 
 use book::codes::code_of;
@@ -10,7 +10,7 @@ use stack::Stack;
 
 // What an instruction adds to a toll.
 fn added<M: Meter>(meter: &M, instruction: Instruction) -> u64
-    ensures { result ≡ addedBy (M.Meter.meaning meter.now) instruction }
+    ensures { result ≡ added_by (M.Meter.meaning meter.now) instruction }
 {
     let charge = u64::from(meter.charge(code_of(instruction), 0, 0));
     match instruction {

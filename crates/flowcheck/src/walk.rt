@@ -2,7 +2,7 @@
 // the levels of the amounts on the stack.
 ghost use Rattle.reader.specs.Books.{said};
 ghost use Rattle.flowcheck.specs.Checks.{setting};
-ghost use Rattle.flowcheck.specs.Walks.{breaks_charge, breaks_direct, breaks_implicit, broken, contexts_after, figure_level, levels_after, on_clock, or_else, stake as stakeOf};
+ghost use Rattle.flowcheck.specs.Walks.{breaks_charge, breaks_direct, breaks_implicit, broken, contexts_after, figure_level, levels_after, on_clock, or_else, stake as stake_of};
 ghost use Rattle.refusal.specs.declared.check.CheckFault.TheVariants.{Direct, Implicit};
 ghost use Rattle.book.specs.declared.instruction.Instruction.TheVariants.{If};
 ghost use Rattle.stack.specs.Stacks.{held};
@@ -41,7 +41,7 @@ impl Walk {
         book: &Book,
         instruction: Instruction,
     ) -> u16
-        ensures { result ≡ stakeOf (setting (S.Scale.meaning scale.now) (M.Meter.meaning meter.now) (said book.now)) (held self.now.contexts) (held self.now.levels) instruction }
+        ensures { result ≡ stake_of (setting (S.Scale.meaning scale.now) (M.Meter.meaning meter.now) (said book.now)) (held self.now.contexts) (held self.now.levels) instruction }
     {
         let floor = scale.floor();
         let context = self.contexts.top().unwrap_or(floor);
@@ -192,7 +192,7 @@ impl Walk {
 
     // Whether the clock may show the context inside an if that tests the top amount.
     pub(crate) fn shows_test<S: Scale, M: Meter>(&self, scale: &S, meter: &M, book: &Book) -> bool
-        ensures { result ≡ on_clock (setting (S.Scale.meaning scale.now) (M.Meter.meaning meter.now) (said book.now)) (stakeOf (setting (S.Scale.meaning scale.now) (M.Meter.meaning meter.now) (said book.now)) (held self.now.contexts) (held self.now.levels) If) }
+        ensures { result ≡ on_clock (setting (S.Scale.meaning scale.now) (M.Meter.meaning meter.now) (said book.now)) (stake_of (setting (S.Scale.meaning scale.now) (M.Meter.meaning meter.now) (said book.now)) (held self.now.contexts) (held self.now.levels) If) }
     {
         let inside = self.stake(scale, meter, book, Instruction::If);
         scale.at_or_below(inside, book.clock_level())

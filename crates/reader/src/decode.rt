@@ -1,6 +1,6 @@
 // One instruction from its code and its argument.
 ghost use Rattle.std.specs.Prelude.{◌≡◌, ◌<◌, ◌≤◌};
-ghost use Rattle.book.specs.Codes.{alone as aloneOf, decoded, natural_below};
+ghost use Rattle.book.specs.Codes.{alone as alone_of, decoded, natural_below};
 
 use book::instruction::{Instruction, Operation};
 
@@ -25,7 +25,7 @@ fn figure(figures: usize, argument: i32) -> Option<u8>
 
 // An instruction that has 0 for its argument.
 fn alone(instruction: Instruction, argument: i32) -> Option<Instruction>
-    ensures { result ≡ aloneOf instruction argument }
+    ensures { result ≡ alone_of instruction argument }
 {
     if argument == 0 {
         Some(instruction)

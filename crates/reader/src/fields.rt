@@ -1,6 +1,6 @@
 // Numbers at places of a list of bytes, big-endian.
 ghost use Rattle.std.specs.Prelude.{◌≡◌, ◌+◌, ◌*◌, ◌<◌, ◌≤◌, length, take};
-ghost use Rattle.book.specs.Reads.{long as longAt, longs, word as word_at, words};
+ghost use Rattle.book.specs.Reads.{long as long_at, longs, word as word_at, words};
 
 pub(crate) fn word(bytes: &[u8], at: usize) -> u16
     requires { at + 1 < length bytes.now }
@@ -11,7 +11,7 @@ pub(crate) fn word(bytes: &[u8], at: usize) -> u16
 
 pub(crate) fn long(bytes: &[u8], at: usize) -> i32
     requires { at + 3 < length bytes.now }
-    ensures { result ≡ longAt bytes.now at }
+    ensures { result ≡ long_at bytes.now at }
 {
     i32::from_be_bytes([bytes[at], bytes[at + 1], bytes[at + 2], bytes[at + 3]])
 }

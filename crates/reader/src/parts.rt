@@ -2,7 +2,7 @@
 ghost use Rattle.reader.specs.Books.{said};
 ghost use Rattle.std.specs.Prelude.{◌≡◌, ◌≤◌, length};
 ghost use Rattle.book.specs.Counts.{stops};
-ghost use Rattle.book.specs.Trees.{events as eventsOf};
+ghost use Rattle.book.specs.Trees.{events as events_of};
 
 use crate::rulebook::Book;
 use book::codes::is_stop;
@@ -25,12 +25,12 @@ fn count_stops(code: &[Instruction]) -> u32
 impl Book {
     // Changes nothing: a call brings into its caller's proof that each event has one stop.
     fn events_law(&self)
-        ensures { stops (said self.now).code ≡ length (eventsOf (said self.now).code) }
+        ensures { stops (said self.now).code ≡ length (events_of (said self.now).code) }
     {}
 
     // How many events there are.
     pub fn events(&self) -> u32
-        ensures { result ≡ length (eventsOf (said self.now).code) }
+        ensures { result ≡ length (events_of (said self.now).code) }
     {
         self.events_law();
         count_stops(self.code())

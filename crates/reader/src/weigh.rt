@@ -1,7 +1,7 @@
 // The weights of events: how many instructions a run of each could come to at most.
 ghost use Rattle.std.specs.Prelude.{◌≡◌, ◌+◌, ◌≤◌, [], length, nat_lt};
 ghost use Rattle.book.specs.Reads.{stops_last};
-ghost use Rattle.book.specs.Weighs.{capped, closing_fault, factor as factorOf, factors_after, heaviest};
+ghost use Rattle.book.specs.Weighs.{capped, closing_fault, factor as factor_of, factors_after, heaviest};
 ghost use Rattle.stack.specs.Stacks.{held};
 
 use book::codes::is_stop;
@@ -39,7 +39,7 @@ impl Weighing {
     // One instruction more.
     fn add(&mut self, instruction: Instruction)
         ensures start { self.new.start ≡ self.old.start }
-        ensures total { self.new.total ≡ capped (self.old.total + factorOf (held self.old.factors)) }
+        ensures total { self.new.total ≡ capped (self.old.total + factor_of (held self.old.factors)) }
         ensures factors { held self.new.factors ≡ factors_after instruction (held self.old.factors) }
     {
         let factor = self.factors.top().unwrap_or(1);

@@ -10,7 +10,7 @@ use Rattle.refusal.specs.declared.MakerFault.TheVariants.{Ranks}
 use Rattle.refusal.specs.declared.MakerFault.{MakerFault}
 use Rattle.scale.specs.Ladders.{ladder}
 use Rattle.scale.specs.Scales.{ScaleModel}
-use Rattle.script.specs.Asked.{Ask, scale as askScale, meter as askMeter, call}
+use Rattle.script.specs.Asked.{Ask, scale as ask_scale, meter as ask_meter, call}
 use Rattle.script.specs.Calls.{call_of}
 use Rattle.script.specs.Chosen.{MeterMade, meter_made, meter_of, ScaleMade, scale_made, scale_of}
 use Rattle.script.specs.Replies.{reply_to}
@@ -60,14 +60,14 @@ choice_reply (Some x) = Done
 
 -- What a console is after a line asked for something. A call is one step of the engine's model.
 abbrev pub obeying : ConsoleModel → Ask → ConsoleModel
-obeying c (askScale x) = rescaled (scale_made x) c
-obeying c (askMeter x) = remetered (meter_made x) c
+obeying c (ask_scale x) = rescaled (scale_made x) c
+obeying c (ask_meter x) = remetered (meter_made x) c
 obeying c (call x) = record { scale = c.scale; meter = c.meter; engine = next c.scale c.meter c.engine x }
 
 -- What it replies.
 abbrev pub replying : ConsoleModel → Ask → Reply
-replying c (askScale x) = choice_reply (scale_made x)
-replying c (askMeter x) = choice_reply (meter_made x)
+replying c (ask_scale x) = choice_reply (scale_made x)
+replying c (ask_meter x) = choice_reply (meter_made x)
 replying c (call x) = reply_to (answer c.scale c.meter c.engine x)
 
 -- The same of a line that may ask for nothing.

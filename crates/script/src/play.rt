@@ -1,7 +1,7 @@
 // A script that is held in memory, played from its first line to its last.
 ghost use Rattle.std.specs.Prelude.{◌≡◌, ◌<◌, ◌∷◌, length, IfOk, string_bytes};
 ghost use Rattle.script.specs.Consoles.{console_of};
-ghost use Rattle.script.specs.Scripts.{answers, lines_of, transcript as transcriptOf};
+ghost use Rattle.script.specs.Scripts.{answers, lines_of, transcript as transcript_of};
 
 use crate::console::Console;
 use std::alloc::{AllocError, Global};
@@ -38,7 +38,7 @@ fn answer_all(heap: Global, console: &mut Console, script: &[u8]) -> Result<Stri
 
 // Plays a script on a console of its own, and answers the transcript: the line of each reply, with a line feed.
 pub fn play(heap: Global, script: &[u8]) -> Result<String, AllocError>
-    ensures { IfOk result (λ text. string_bytes text ≡ transcriptOf script.now) }
+    ensures { IfOk result (λ text. string_bytes text ≡ transcript_of script.now) }
 {
     let mut console = Console::new();
     let transcript = answer_all(heap, &mut console, script);

@@ -1,6 +1,6 @@
 // Remarks, and the words of a line: numbers and bytes.
 ghost use Rattle.std.specs.Prelude.{◌≡◌, ◌<◌, IfSome, vec_items};
-ghost use Rattle.script.specs.Hex.{byte_value, bytes as bytesSpelled, bytes_value, digit_value};
+ghost use Rattle.script.specs.Hex.{byte_value, bytes as bytes_spelled, bytes_value, digit_value};
 ghost use Rattle.script.specs.Remarks.{blank, marked, remark};
 ghost use Rattle.script.specs.Words.{integer, natural, Numbered, Reads};
 
@@ -106,7 +106,7 @@ fn hex_bytes(heap: Global, text: &[u8]) -> Result<Vec<u8>, LineFault>
 
 // The bytes that a word spells; `-` stands for none.
 pub(crate) fn read_bytes(heap: Global, word: &str) -> Result<Vec<u8>, LineFault>
-    ensures { Reads vec_items (bytesSpelled word.now) result }
+    ensures { Reads vec_items (bytes_spelled word.now) result }
 {
     if word == "-" {
         return Ok(Vec::new(heap));

@@ -1,5 +1,5 @@
 // Operations on amounts, which stay at the nearer end of the 32-bit range.
-ghost use Rattle.steps.specs.Amounts.{divided, operate as operateBy};
+ghost use Rattle.steps.specs.Amounts.{divided, operate as operate_by};
 ghost use Rattle.std.specs.Prelude.{◌≡◌};
 
 use book::instruction::Operation;
@@ -18,7 +18,7 @@ fn divide(first: i32, second: i32) -> i32
 }
 
 pub(crate) fn operate(operation: Operation, first: i32, second: i32) -> i32
-    ensures { result ≡ operateBy operation first second }
+    ensures { result ≡ operate_by operation first second }
 {
     match operation {
         Operation::Add => first.saturating_add(second),

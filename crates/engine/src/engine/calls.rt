@@ -1,7 +1,7 @@
 // The calls on an engine. Each is one step of the model, refused or accepted.
 ghost use Rattle.reader.specs.Books.{said};
 ghost use Rattle.engine.specs.Calls.{answer, next};
-ghost use Rattle.engine.specs.Models.{ask_apart, ask_figure, ask_level, ask_sight, ask_slip, carry as carryCall, clock as clockCall, fresh, load as loadCall, open_slip, or_else, put as putCall, run as runCall, show as showCall, tally as tallyCall, unless, withdraw as withdrawCall};
+ghost use Rattle.engine.specs.Models.{ask_apart, ask_figure, ask_level, ask_sight, ask_slip, carry as carry_call, clock as clock_call, fresh, load as load_call, open_slip, or_else, put as put_call, run as run_call, show as show_call, tally as tally_call, unless, withdraw as withdraw_call};
 ghost use Rattle.engine.specs.Promises.{Promise};
 ghost use Rattle.engine.specs.Seen.{Back, Voided, clock_answer, engine_of, load_answer, open_answer, out_of, paper_of, plain_answer, show_answer, slip_answer, tally_answer};
 ghost use Rattle.engine.specs.Worked.{WorkedExamples};
@@ -58,8 +58,8 @@ impl<S: Scale, M: Meter> Engine<S, M> {
     // Loads a book: its figures get their start amounts and the clock starts at 0. Answers how many
     // events there are.
     pub fn load(&mut self, bytes: &[u8]) -> Result<u32, EngineFault>
-        ensures answer { load_answer result ≡ answer (S.Scale.meaning self.old.scale) (M.Meter.meaning self.old.meter) (engine_of self.old) (loadCall bytes.now) }
-        ensures after { engine_of self.new ≡ next (S.Scale.meaning self.old.scale) (M.Meter.meaning self.old.meter) (engine_of self.old) (loadCall bytes.now) }
+        ensures answer { load_answer result ≡ answer (S.Scale.meaning self.old.scale) (M.Meter.meaning self.old.meter) (engine_of self.old) (load_call bytes.now) }
+        ensures after { engine_of self.new ≡ next (S.Scale.meaning self.old.scale) (M.Meter.meaning self.old.meter) (engine_of self.old) (load_call bytes.now) }
         ensures kept { (self.new.scale ≡ self.old.scale) × (self.new.meter ≡ self.old.meter) }
     {
         let slip_out = self.out.is_some();
@@ -75,8 +75,8 @@ impl<S: Scale, M: Meter> Engine<S, M> {
 
     // Puts an amount into a figure, without ticks. No amount is refused.
     pub fn put(&mut self, figure: u32, amount: i32) -> Result<(), EngineFault>
-        ensures answer { plain_answer result ≡ answer (S.Scale.meaning self.old.scale) (M.Meter.meaning self.old.meter) (engine_of self.old) (putCall figure amount) }
-        ensures after { engine_of self.new ≡ next (S.Scale.meaning self.old.scale) (M.Meter.meaning self.old.meter) (engine_of self.old) (putCall figure amount) }
+        ensures answer { plain_answer result ≡ answer (S.Scale.meaning self.old.scale) (M.Meter.meaning self.old.meter) (engine_of self.old) (put_call figure amount) }
+        ensures after { engine_of self.new ≡ next (S.Scale.meaning self.old.scale) (M.Meter.meaning self.old.meter) (engine_of self.old) (put_call figure amount) }
         ensures kept { (self.new.scale ≡ self.old.scale) × (self.new.meter ≡ self.old.meter) }
     {
         let Some(program) = &self.program else {
@@ -91,8 +91,8 @@ impl<S: Scale, M: Meter> Engine<S, M> {
 
     // Runs an event.
     pub fn run(&mut self, event: u32) -> Result<(), EngineFault>
-        ensures answer { plain_answer result ≡ answer (S.Scale.meaning self.old.scale) (M.Meter.meaning self.old.meter) (engine_of self.old) (runCall event) }
-        ensures after { engine_of self.new ≡ next (S.Scale.meaning self.old.scale) (M.Meter.meaning self.old.meter) (engine_of self.old) (runCall event) }
+        ensures answer { plain_answer result ≡ answer (S.Scale.meaning self.old.scale) (M.Meter.meaning self.old.meter) (engine_of self.old) (run_call event) }
+        ensures after { engine_of self.new ≡ next (S.Scale.meaning self.old.scale) (M.Meter.meaning self.old.meter) (engine_of self.old) (run_call event) }
         ensures kept { (self.new.scale ≡ self.old.scale) × (self.new.meter ≡ self.old.meter) }
     {
         let Some(program) = &self.program else {
@@ -106,7 +106,7 @@ impl<S: Scale, M: Meter> Engine<S, M> {
 
     // Shows a figure's amount to an observer of this level.
     pub fn show(&self, level: u16, figure: u32) -> Result<i32, EngineFault>
-        ensures answer { show_answer result ≡ answer (S.Scale.meaning self.now.scale) (M.Meter.meaning self.now.meter) (engine_of self.now) (showCall level figure) }
+        ensures answer { show_answer result ≡ answer (S.Scale.meaning self.now.scale) (M.Meter.meaning self.now.meter) (engine_of self.now) (show_call level figure) }
     {
         let Some(program) = &self.program else {
             return Err(EngineFault::NoBook);
@@ -126,7 +126,7 @@ impl<S: Scale, M: Meter> Engine<S, M> {
 
     // Shows the clock to an observer of this level.
     pub fn clock(&self, level: u16) -> Result<u64, EngineFault>
-        ensures answer { clock_answer result ≡ answer (S.Scale.meaning self.now.scale) (M.Meter.meaning self.now.meter) (engine_of self.now) (clockCall level) }
+        ensures answer { clock_answer result ≡ answer (S.Scale.meaning self.now.scale) (M.Meter.meaning self.now.meter) (engine_of self.now) (clock_call level) }
     {
         let Some(program) = &self.program else {
             return Err(EngineFault::NoBook);
@@ -209,9 +209,9 @@ impl<S: Scale, M: Meter> Engine<S, M> {
 
     // Carries a slip: its second figure gets the amount that its first one has now, without ticks.
     pub fn carry(&mut self, slip: Slip) -> Result<(), Refused>
-        ensures answer { slip_answer result ≡ answer (S.Scale.meaning self.old.scale) (M.Meter.meaning self.old.meter) (engine_of self.old) (carryCall (paper_of slip.numbers)) }
+        ensures answer { slip_answer result ≡ answer (S.Scale.meaning self.old.scale) (M.Meter.meaning self.old.meter) (engine_of self.old) (carry_call (paper_of slip.numbers)) }
         ensures back { Back slip result }
-        ensures after { engine_of self.new ≡ next (S.Scale.meaning self.old.scale) (M.Meter.meaning self.old.meter) (engine_of self.old) (carryCall (paper_of slip.numbers)) }
+        ensures after { engine_of self.new ≡ next (S.Scale.meaning self.old.scale) (M.Meter.meaning self.old.meter) (engine_of self.old) (carry_call (paper_of slip.numbers)) }
         ensures kept { (self.new.scale ≡ self.old.scale) × (self.new.meter ≡ self.old.meter) }
     {
         if !self.is_out(slip.numbers) {
@@ -230,9 +230,9 @@ impl<S: Scale, M: Meter> Engine<S, M> {
 
     // Withdraws a slip: it is used up, and nothing moves.
     pub fn withdraw(&mut self, slip: Slip) -> Result<(), Refused>
-        ensures answer { slip_answer result ≡ answer (S.Scale.meaning self.old.scale) (M.Meter.meaning self.old.meter) (engine_of self.old) (withdrawCall (paper_of slip.numbers)) }
+        ensures answer { slip_answer result ≡ answer (S.Scale.meaning self.old.scale) (M.Meter.meaning self.old.meter) (engine_of self.old) (withdraw_call (paper_of slip.numbers)) }
         ensures back { Back slip result }
-        ensures after { engine_of self.new ≡ next (S.Scale.meaning self.old.scale) (M.Meter.meaning self.old.meter) (engine_of self.old) (withdrawCall (paper_of slip.numbers)) }
+        ensures after { engine_of self.new ≡ next (S.Scale.meaning self.old.scale) (M.Meter.meaning self.old.meter) (engine_of self.old) (withdraw_call (paper_of slip.numbers)) }
         ensures kept { (self.new.scale ≡ self.old.scale) × (self.new.meter ≡ self.old.meter) }
     {
         if !self.is_out(slip.numbers) {
@@ -260,7 +260,7 @@ impl<S: Scale, M: Meter> Engine<S, M> {
 
     // The openings, carries and withdrawals accepted since the engine was made.
     pub fn tally(&self) -> Tally
-        ensures { tally_answer result ≡ answer (S.Scale.meaning self.now.scale) (M.Meter.meaning self.now.meter) (engine_of self.now) tallyCall }
+        ensures { tally_answer result ≡ answer (S.Scale.meaning self.now.scale) (M.Meter.meaning self.now.meter) (engine_of self.now) tally_call }
     {
         Tally {
             openings: self.openings,

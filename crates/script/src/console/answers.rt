@@ -2,11 +2,11 @@
 ghost use Rattle.house.specs.Rulings.{ones};
 ghost use Rattle.meter.specs.Cards.{card};
 ghost use Rattle.scale.specs.Ladders.{ladder};
-ghost use Rattle.script.specs.Asked.{scale as askScale, meter as askMeter};
+ghost use Rattle.script.specs.Asked.{scale as ask_scale, meter as ask_meter};
 ghost use Rattle.script.specs.Calls.{ask_of};
 ghost use Rattle.script.specs.Chosen.{MeterMade, meter_of, ScaleMade, scale_of};
 ghost use Rattle.script.specs.Consoles.{console_of, Fresh, Obeyed, obeying, opened, Remetered, renewed, replying, Rescaled};
-ghost use Rattle.script.specs.Scripts.{after as consoleAfter, reply as reply_to};
+ghost use Rattle.script.specs.Scripts.{after as console_after, reply as reply_to};
 ghost use Rattle.std.specs.Prelude.{◌≡◌, MatchResult, Result};
 
 use crate::chosen::{ChosenMeter, ChosenScale, make_meter, make_scale};
@@ -52,8 +52,8 @@ impl Console {
     // Chooses another scale.
     fn set_scale(&mut self, choice: ScaleChoice) -> Reply
         ensures rescaled { (made : Result ChosenScale MakerFault) × ScaleMade choice made × Rescaled made self.old self.new result }
-        ensures reply { result ≡ replying (console_of self.old) (askScale choice) }
-        ensures after { console_of self.new ≡ obeying (console_of self.old) (askScale choice) }
+        ensures reply { result ≡ replying (console_of self.old) (ask_scale choice) }
+        ensures after { console_of self.new ≡ obeying (console_of self.old) (ask_scale choice) }
     {
         match make_scale(choice) {
             Ok(scale) => {
@@ -68,8 +68,8 @@ impl Console {
     // Chooses another meter.
     fn set_meter(&mut self, choice: MeterChoice) -> Reply
         ensures remetered { (made : Result ChosenMeter MakerFault) × MeterMade choice made × Remetered made self.old self.new result }
-        ensures reply { result ≡ replying (console_of self.old) (askMeter choice) }
-        ensures after { console_of self.new ≡ obeying (console_of self.old) (askMeter choice) }
+        ensures reply { result ≡ replying (console_of self.old) (ask_meter choice) }
+        ensures after { console_of self.new ≡ obeying (console_of self.old) (ask_meter choice) }
     {
         match make_meter(choice) {
             Ok(meter) => {
@@ -96,7 +96,7 @@ impl Console {
 
     // Answers a line of the script, unless it is there for its readers alone.
     pub fn answer(&mut self, heap: Global, line: &[u8]) -> Result<Option<Reply>, AllocError>
-        ensures { MatchResult result (λ reply. (reply ≡ reply_to (console_of self.old) line.now) × (console_of self.new ≡ consoleAfter (console_of self.old) line.now)) (λ _. console_of self.new ≡ console_of self.old) }
+        ensures { MatchResult result (λ reply. (reply ≡ reply_to (console_of self.old) line.now) × (console_of self.new ≡ console_after (console_of self.old) line.now)) (λ _. console_of self.new ≡ console_of self.old) }
     {
         if is_remark(line) {
             return Ok(None);

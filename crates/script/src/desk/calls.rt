@@ -5,7 +5,7 @@ ghost use Rattle.script.specs.Desks.{settled};
 ghost use Rattle.script.specs.Held.{is_held, left_held, paper_held};
 ghost use Rattle.script.specs.Replies.{reply_to};
 ghost use Rattle.engine.specs.Calls.{answer, next};
-ghost use Rattle.engine.specs.Models.{ask_slip, carry as carryCall, fresh, load as loadCall, open_slip, put as putCall, run as runCall, withdraw as withdrawCall};
+ghost use Rattle.engine.specs.Models.{ask_slip, carry as carry_call, fresh, load as load_call, open_slip, put as put_call, run as run_call, withdraw as withdraw_call};
 ghost use Rattle.engine.specs.Seen.{engine_of, paper_of};
 ghost use Rattle.refusal.specs.declared.engine.EngineFault.TheVariants.{NotTheSlip};
 ghost use Rattle.std.specs.Prelude.{◌≡◌, Some, None};
@@ -59,7 +59,7 @@ fn discard(engine: &Engine<ChosenScale, ChosenMeter>, slip: Slip)
 // Withdraws the slip that is out.
 fn withdraw_last(engine: &mut Engine<ChosenScale, ChosenMeter>, slip: Slip)
     requires { ask_slip (engine_of engine.old).shared.out (paper_of slip.numbers) ≡ None }
-    ensures { engine_of engine.new ≡ next (scale_of engine.old.scale) (meter_of engine.old.meter) (engine_of engine.old) (withdrawCall (paper_of slip.numbers)) }
+    ensures { engine_of engine.new ≡ next (scale_of engine.old.scale) (meter_of engine.old.meter) (engine_of engine.old) (withdraw_call (paper_of slip.numbers)) }
 {
     match engine.withdraw(slip) {
         Ok(()) => {}
@@ -81,8 +81,8 @@ impl Desk {
 
     // Loads a book.
     fn load(&mut self, bytes: &[u8]) -> Reply
-        ensures answer { result ≡ reply_to (answer (scale_of self.old.engine.scale) (meter_of self.old.engine.meter) (engine_of self.old.engine) (loadCall bytes.now)) }
-        ensures after { engine_of self.new.engine ≡ next (scale_of self.old.engine.scale) (meter_of self.old.engine.meter) (engine_of self.old.engine) (loadCall bytes.now) }
+        ensures answer { result ≡ reply_to (answer (scale_of self.old.engine.scale) (meter_of self.old.engine.meter) (engine_of self.old.engine) (load_call bytes.now)) }
+        ensures after { engine_of self.new.engine ≡ next (scale_of self.old.engine.scale) (meter_of self.old.engine.meter) (engine_of self.old.engine) (load_call bytes.now) }
         ensures kept { (self.new.engine.scale ≡ self.old.engine.scale) × (self.new.engine.meter ≡ self.old.engine.meter) }
     {
         Reply::loaded(self.engine.load(bytes))
@@ -90,8 +90,8 @@ impl Desk {
 
     // Puts an amount into a figure.
     fn put(&mut self, figure: u32, amount: i32) -> Reply
-        ensures answer { result ≡ reply_to (answer (scale_of self.old.engine.scale) (meter_of self.old.engine.meter) (engine_of self.old.engine) (putCall figure amount)) }
-        ensures after { engine_of self.new.engine ≡ next (scale_of self.old.engine.scale) (meter_of self.old.engine.meter) (engine_of self.old.engine) (putCall figure amount) }
+        ensures answer { result ≡ reply_to (answer (scale_of self.old.engine.scale) (meter_of self.old.engine.meter) (engine_of self.old.engine) (put_call figure amount)) }
+        ensures after { engine_of self.new.engine ≡ next (scale_of self.old.engine.scale) (meter_of self.old.engine.meter) (engine_of self.old.engine) (put_call figure amount) }
         ensures kept { (self.new.engine.scale ≡ self.old.engine.scale) × (self.new.engine.meter ≡ self.old.engine.meter) }
     {
         Reply::done(self.engine.put(figure, amount))
@@ -99,8 +99,8 @@ impl Desk {
 
     // Runs an event.
     fn run(&mut self, event: u32) -> Reply
-        ensures answer { result ≡ reply_to (answer (scale_of self.old.engine.scale) (meter_of self.old.engine.meter) (engine_of self.old.engine) (runCall event)) }
-        ensures after { engine_of self.new.engine ≡ next (scale_of self.old.engine.scale) (meter_of self.old.engine.meter) (engine_of self.old.engine) (runCall event) }
+        ensures answer { result ≡ reply_to (answer (scale_of self.old.engine.scale) (meter_of self.old.engine.meter) (engine_of self.old.engine) (run_call event)) }
+        ensures after { engine_of self.new.engine ≡ next (scale_of self.old.engine.scale) (meter_of self.old.engine.meter) (engine_of self.old.engine) (run_call event) }
         ensures kept { (self.new.engine.scale ≡ self.old.engine.scale) × (self.new.engine.meter ≡ self.old.engine.meter) }
     {
         Reply::done(self.engine.run(event))
@@ -126,8 +126,8 @@ impl Desk {
 
     // Carries the slip with these numbers.
     fn carry(&mut self, numbers: Numbers) -> Reply
-        ensures answer { result ≡ reply_to (answer (scale_of self.old.engine.scale) (meter_of self.old.engine.meter) (engine_of self.old.engine) (carryCall (paper_of numbers))) }
-        ensures after { engine_of self.new.engine ≡ next (scale_of self.old.engine.scale) (meter_of self.old.engine.meter) (engine_of self.old.engine) (carryCall (paper_of numbers)) }
+        ensures answer { result ≡ reply_to (answer (scale_of self.old.engine.scale) (meter_of self.old.engine.meter) (engine_of self.old.engine) (carry_call (paper_of numbers))) }
+        ensures after { engine_of self.new.engine ≡ next (scale_of self.old.engine.scale) (meter_of self.old.engine.meter) (engine_of self.old.engine) (carry_call (paper_of numbers)) }
         ensures kept { (self.new.engine.scale ≡ self.old.engine.scale) × (self.new.engine.meter ≡ self.old.engine.meter) }
     {
         let slip = present(&mut self.held, numbers);
@@ -142,8 +142,8 @@ impl Desk {
 
     // Withdraws the slip with these numbers.
     fn withdraw(&mut self, numbers: Numbers) -> Reply
-        ensures answer { result ≡ reply_to (answer (scale_of self.old.engine.scale) (meter_of self.old.engine.meter) (engine_of self.old.engine) (withdrawCall (paper_of numbers))) }
-        ensures after { engine_of self.new.engine ≡ next (scale_of self.old.engine.scale) (meter_of self.old.engine.meter) (engine_of self.old.engine) (withdrawCall (paper_of numbers)) }
+        ensures answer { result ≡ reply_to (answer (scale_of self.old.engine.scale) (meter_of self.old.engine.meter) (engine_of self.old.engine) (withdraw_call (paper_of numbers))) }
+        ensures after { engine_of self.new.engine ≡ next (scale_of self.old.engine.scale) (meter_of self.old.engine.meter) (engine_of self.old.engine) (withdraw_call (paper_of numbers)) }
         ensures kept { (self.new.engine.scale ≡ self.old.engine.scale) × (self.new.engine.meter ≡ self.old.engine.meter) }
     {
         let slip = present(&mut self.held, numbers);
