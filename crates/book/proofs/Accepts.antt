@@ -1,7 +1,7 @@
 -- Bytes that are read as a book are the encoding of that book, which is well formed.
 use Rattle.std.proofs.Common.{◌≡◌, ℕ, ◌+◌, ◌*◌, ◌<◌, ◌≤◌, cond, eqb, ltb, List, [], ◌∷◌, ◌++◌, map, length, drop, ℤ, Ok, Err, Result, sym, refl, ap, ◌∙◌, subst, ap₂, arith, w32, SFits}
-use Rattle.book.proofs.Bytes.{code_at, one, code_field, word_field, long_field, words_fields, longs_fields, raws_codes, raws_arguments, length-raws, raw_codes, raw_arguments, codes_joined, arguments_joined}
-use Rattle.book.proofs.FieldLaws.{Bytes, fields, length_fields, all_fields, written_at, written_fields}
+use Rattle.book.proofs.Bytes.{code_at, one, code_field, word_field, long_field, raws_codes, raws_arguments, length-raws, raw_codes, raw_arguments, codes_joined, arguments_joined}
+use Rattle.book.proofs.FieldLaws.{Bytes, length_fields, all_fields, written_at, written_fields}
 use Rattle.book.proofs.Outcomes.{ok_same, err_ok, by_test}
 use Rattle.book.proofs.Sounds.{finished_ok, finished_spoken}
 use Rattle.book.proofs.Steps.{scan_back}
@@ -11,7 +11,7 @@ use Rattle.refusal.specs.declared.reader.ReaderFault.TheVariants.{Length, TooMan
 use Rattle.book.specs.declared.instruction.Instruction.{Instruction}
 use Rattle.book.specs.Encodings.{two, four, argument_bytes, encode, EventFormed, WellFormed}
 use Rattle.book.specs.Forms.{Formed}
-use Rattle.book.specs.Reads.{BookModel, word, long, words, longs, raw, raws, scan, read_code, bound, read_body, read_sized, reading}
+use Rattle.book.specs.Reads.{BookModel, fields, word, long, words, longs, raw, raws, scan, read_code, bound, read_body, read_sized, reading}
 use Rattle.book.specs.Trees.{Code, events, event_weight}
 use Rattle.std.proofs.lemmas.List.{append-nil, length-map, drop_all}
 use Rattle.std.proofs.lemmas.Bool.{ltb-false, eqb-true}
@@ -69,12 +69,12 @@ both_formed nv (e ∷ es) f l = (record { formed = f.0; light = l.0 }, both_form
 -- Bytes of the right length are the fields that are read from them, one behind the other.
 module _ (bs : List ℕ) (bytes : Bytes bs) (nv nc : ℕ) (is : List Instruction) (as_long : length bs ≡ 6 + 6 * nv + 5 * nc) (raw-is : map raw is ≡ raws nc (6 + 6 * nv) (6 + 6 * nv + nc) bs) where
   levels_written : drop 6 bs ≡ flat_map two (words nv 6 bs) ++ drop (6 + 2 * nv) bs
-  levels_written = sym (ap (λ l. flat_map two l ++ drop (6 + 2 * nv) bs) (words_fields nv 6 bs) ∙ written_fields word_field nv 6 bs bytes (omega arith))
+  levels_written = sym (written_fields word_field nv 6 bs bytes (omega arith))
 
   starts_written : drop (6 + 2 * nv) bs ≡ flat_map four (longs nv (6 + 2 * nv) bs) ++ drop (6 + 6 * nv) bs
   starts_written =
       let next : 6 + 6 * nv ≡ 6 + 2 * nv + 4 * nv = omega arith in
-      sym (ap₂ (λ l k. flat_map four l ++ drop k bs) (longs_fields nv (6 + 2 * nv) bs) next ∙ written_fields long_field nv (6 + 2 * nv) bs bytes (omega arith))
+      sym (ap (λ k. flat_map four (longs nv (6 + 2 * nv) bs) ++ drop k bs) next ∙ written_fields long_field nv (6 + 2 * nv) bs bytes (omega arith))
 
   codes_read : map code_of is ≡ fields 1 code_at nc (6 + 6 * nv) bs
   codes_read = sym (raw_codes is) ∙ ap (map (λ r. r.code)) raw-is ∙ raws_codes nc (6 + 6 * nv) (6 + 6 * nv + nc) bs
@@ -97,17 +97,13 @@ module _ (bs : List ℕ) (bytes : Bytes bs) (nv nc : ℕ) (is : List Instruction
 
   -- all but the sizes and the clock's level
   body_written : drop 6 bs ≡ flat_map two (words nv 6 bs) ++ (flat_map four (longs nv (6 + 2 * nv) bs) ++ (map code_of is ++ flat_map argument_bytes is))
-  body_written =
-      levels_written
-      ∙ ap (λ l. flat_map two (words nv 6 bs) ++ l) (starts_written
-      ∙ ap (λ l. flat_map four (longs nv (6 + 2 * nv) bs) ++ l) (codes_written
-      ∙ ap (λ l. map code_of is ++ l) arguments_written))
+  body_written = rw (levels_written, starts_written, codes_written, arguments_written)
 
   levels_many : length (words nv 6 bs) ≡ nv
-  levels_many = ap length (words_fields nv 6 bs) ∙ length_fields 2 word nv 6 bs
+  levels_many = length_fields 2 word nv 6 bs
 
   starts_many : length (longs nv (6 + 2 * nv) bs) ≡ nv
-  starts_many = ap length (longs_fields nv (6 + 2 * nv) bs) ∙ length_fields 4 long nv (6 + 2 * nv) bs
+  starts_many = length_fields 4 long nv (6 + 2 * nv) bs
 
   code_many : length is ≡ nc
   code_many = sym (length-map is raw) ∙ ap length raw-is ∙ length-raws nc (6 + 6 * nv) (6 + 6 * nv + nc) bs
@@ -146,8 +142,8 @@ accepts bs b bytes r =
         starts_too = starts_many bs bytes nv nc is r.as_long raw-is ∙ sym figures-are;
         instructions = subst (λ k. k ≤ 256) (sym instructions-are) r.instructions_few;
         clock_fits = word_field.fit bs 4 bytes;
-        levels_fit = subst (AllByRecursion (λ l. l < 65536)) (sym (words_fields nv 6 bs)) (all_fields 2 word (λ l. l < 65536) bs (λ k. word_field.fit bs k bytes) nv 6);
-        starts_fit = subst (AllByRecursion (λ z. SFits w32 z)) (sym (longs_fields nv (6 + 2 * nv) bs)) (all_fields 4 long (λ z. SFits w32 z) bs (λ k. long_field.fit bs k bytes) nv (6 + 2 * nv));
+        levels_fit = all_fields 2 word (λ l. l < 65536) bs (λ k. word_field.fit bs k bytes) nv 6;
+        starts_fit = all_fields 4 long (λ z. SFits w32 z) bs (λ k. long_field.fit bs k bytes) nv (6 + 2 * nv);
         arguments_fit = arguments_fit_read bs bytes nv nc is r.as_long raw-is;
         program = events is;
         code_is = sym spoken.code_is;

@@ -2,11 +2,11 @@
 use borrow.Author.Gap.{read_sfits}
 use Rattle.std.proofs.Common.{◌≡◌, ℕ, zero, suc, ◌+◌, ◌*◌, ◌/◌, ◌%◌, ◌<◌, ◌≤◌, List, [], ◌∷◌, ◌++◌, map, length, get_or, drop, pos, sym, refl, ap, ◌∙◌, ap₂, arith, w32, SFits, to_z, of_z}
 use mathlib.Core.List.{tail}
-use Rattle.book.proofs.FieldLaws.{Bytes, fields, Field}
+use Rattle.book.proofs.FieldLaws.{Bytes, Field}
 use Rattle.book.specs.Codes.{code_of, argument_of}
 use Rattle.book.specs.declared.instruction.Instruction.{Instruction}
 use Rattle.book.specs.Encodings.{two, four, argument_bytes}
-use Rattle.book.specs.Reads.{word, long, words, longs, Raw, raw, raws}
+use Rattle.book.specs.Reads.{fields, word, long, Raw, raw, raws}
 use Rattle.std.proofs.lemmas.List.{get_or-drop}
 use Rattle.std.proofs.lemmas.Int.{to_z-of_z, of_z-to_z}
 use Rattle.std.specs.List.{flat_map}
@@ -101,15 +101,6 @@ long_field = record {
         let b0 : n % 256 ≡ w = omega arith in
         ap (λ m. m / 16777216 ∷ m / 65536 % 256 ∷ m / 256 % 256 ∷ m % 256 ∷ xs) back
         ∙ λ i. b3 i ∷ b2 i ∷ b1 i ∷ b0 i ∷ xs
-
--- the reader's lists are fields
-pub words_fields : (n at : ℕ) (bs : List ℕ) → words n at bs ≡ fields 2 word n at bs
-words_fields zero at bs = refl
-words_fields (suc n) at bs = ap (λ l. word bs at ∷ l) (words_fields n (at + 2) bs)
-
-pub longs_fields : (n at : ℕ) (bs : List ℕ) → longs n at bs ≡ fields 4 long n at bs
-longs_fields zero at bs = refl
-longs_fields (suc n) at bs = ap (λ l. long bs at ∷ l) (longs_fields n (at + 4) bs)
 
 -- the codes and the arguments of the raw instructions are fields
 pub raws_codes : (n at from : ℕ) (bs : List ℕ) → map (λ r. r.code) (raws n at from bs) ≡ fields 1 code_at n at bs

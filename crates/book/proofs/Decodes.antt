@@ -5,21 +5,15 @@ use Rattle.book.specs.Codes.{code_of, argument_of, bounded, alone, decoded}
 use Rattle.book.specs.declared.instruction.Instruction.{Instruction}
 use Rattle.book.specs.declared.instruction.Instruction.TheVariants.{Stop, Number, Figure, Clock, Operate, Store, If, Repeat, Wait, Else, End}
 use Rattle.book.specs.declared.instruction.Operation.TheVariants.{Add, Subtract, Multiply, Divide, Less, Equal}
-use Rattle.std.proofs.lemmas.Bool.{cond-true, eqb-true, ltb-true, lt-ltb}
+use Rattle.std.proofs.lemmas.Bool.{eqb-true, ltb-true, lt-ltb}
 
 -- the argument of an instruction is in its range, in a book of nv figures
 abbrev pub Valid : ℕ → Instruction → Type 0
-Valid nv (Number z) = Unit {0}
 Valid nv (Figure v) = v < nv
-Valid nv Clock = Unit {0}
-Valid nv (Operate o) = Unit {0}
 Valid nv (Store v) = v < nv
-Valid nv If = Unit {0}
 Valid nv (Repeat n) = n ≤ 1000
 Valid nv (Wait n) = n ≤ 1000
-Valid nv Else = Unit {0}
-Valid nv End = Unit {0}
-Valid nv Stop = Unit {0}
+Valid nv _ = Unit {0}
 
 -- i is what this code and argument stand for
 pub record Decoded (nv c : ℕ) (z : ℤ) (i : Instruction) : Type 0 where
@@ -66,7 +60,7 @@ decoded_is nv c z i =
 -- a valid instruction is what its own code and argument stand for
 pub decoded_valid : (nv : ℕ) (i : Instruction) → Valid nv i → decoded nv (code_of i) (argument_of i) ≡ Some i
 decoded_valid nv (Number z) h = refl
-decoded_valid nv (Figure v) h = cond-true (ltb v nv) (Some (Figure v)) None (lt-ltb v nv h)
+decoded_valid nv (Figure v) h = rw (lt-ltb v nv h)
 decoded_valid nv Clock h = refl
 decoded_valid nv (Operate Add) h = refl
 decoded_valid nv (Operate Subtract) h = refl
@@ -74,10 +68,10 @@ decoded_valid nv (Operate Multiply) h = refl
 decoded_valid nv (Operate Divide) h = refl
 decoded_valid nv (Operate Less) h = refl
 decoded_valid nv (Operate Equal) h = refl
-decoded_valid nv (Store v) h = cond-true (ltb v nv) (Some (Store v)) None (lt-ltb v nv h)
+decoded_valid nv (Store v) h = rw (lt-ltb v nv h)
 decoded_valid nv If h = refl
-decoded_valid nv (Repeat n) h = cond-true (ltb n 1001) (Some (Repeat n)) None (lt-ltb n 1001 (omega arith))
-decoded_valid nv (Wait n) h = cond-true (ltb n 1001) (Some (Wait n)) None (lt-ltb n 1001 (omega arith))
+decoded_valid nv (Repeat n) h = let below : n < 1001 = omega arith in rw (lt-ltb n 1001 below)
+decoded_valid nv (Wait n) h = let below : n < 1001 = omega arith in rw (lt-ltb n 1001 below)
 decoded_valid nv Else h = refl
 decoded_valid nv End h = refl
 decoded_valid nv Stop h = refl

@@ -2,6 +2,7 @@
 use Rattle.std.proofs.Common.{◌≡◌, ℕ, zero, suc, ◌+◌, ◌*◌, ◌<◌, ◌≤◌, List, [], ◌∷◌, ◌++◌, length, drop, sym, refl, ap, ◌∙◌, ap₂, mul-suc, arith}
 use Rattle.std.proofs.ByRecursion.{All-drop}
 use Rattle.std.proofs.lemmas.List.{append_assoc, length-append, length-drop, drop_at, drop-drop}
+use Rattle.book.specs.Reads.{fields}
 use Rattle.std.specs.List.{flat_map, AllByRecursion}
 
 -- bytes are numbers below 256
@@ -9,18 +10,13 @@ abbrev pub Bytes : List ℕ → Type 0
 Bytes bs = AllByRecursion (λ x. x < 256) bs
 
 module _ {X : Type 0} (size : ℕ) (read : List ℕ → ℕ → X) where
-  -- n fields from a place on
-  abbrev pub fields : ℕ → ℕ → List ℕ → List X
-  fields zero at bs = []
-  fields (suc n) at bs = read bs at ∷ fields n (at + size) bs
-
   -- as many as were asked for
-  pub length_fields : (n at : ℕ) (bs : List ℕ) → length (fields n at bs) ≡ n
+  pub length_fields : (n at : ℕ) (bs : List ℕ) → length (fields size read n at bs) ≡ n
   length_fields zero at bs = refl
   length_fields (suc n) at bs = ap suc (length_fields n (at + size) bs)
 
   -- what holds of every read holds of each field
-  pub all_fields : (P : X → Type 0) (bs : List ℕ) → ((at : ℕ) → P (read bs at)) → (n at : ℕ) → AllByRecursion P (fields n at bs)
+  pub all_fields : (P : X → Type 0) (bs : List ℕ) → ((at : ℕ) → P (read bs at)) → (n at : ℕ) → AllByRecursion P (fields size read n at bs)
   all_fields P bs h zero at = tt
   all_fields P bs h (suc n) at = (h at, all_fields P bs h n (at + size))
 

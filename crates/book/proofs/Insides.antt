@@ -2,7 +2,7 @@
 use Rattle.std.proofs.Common.{◌≡◌, ℕ, zero, suc, ◌+◌, true, List, [], ◌∷◌, ◌++◌, get_or, drop, sym, ap, ◌∙◌, subst, add-one}
 use Rattle.book.proofs.Sounds.{sound_spoken}
 use Rattle.book.specs.declared.instruction.Instruction.{Instruction}
-use Rattle.book.specs.declared.instruction.Instruction.TheVariants.{Stop, Number, Figure, Clock, Operate, Store, If, Repeat, Wait, Else, End}
+use Rattle.book.specs.declared.instruction.Instruction.TheVariants.{Stop, Repeat, Else, End}
 use Rattle.book.specs.Forms.{Formed, ends, number, figure, clock, operate, store, wait, one_part, two_parts, turns}
 use Rattle.book.specs.Reads.{sound}
 use Rattle.book.specs.Trees.{Code, flat, whole, events}
@@ -19,17 +19,9 @@ pub record Inside (nv : ℕ) (is : List Instruction) : Type 0 where
 
 -- what is known of the instructions behind a given one
 abbrev pub Behind : ℕ → Instruction → List Instruction → Type 0
-Behind nv (Number z) is = Unit {0}
-Behind nv (Figure v) is = Unit {0}
-Behind nv Clock is = Unit {0}
-Behind nv (Operate o) is = Unit {0}
-Behind nv (Store v) is = Unit {0}
-Behind nv If is = Unit {0}
 Behind nv (Repeat n) is = Inside nv is
-Behind nv (Wait n) is = Unit {0}
 Behind nv Else is = Inside nv is
-Behind nv End is = Unit {0}
-Behind nv Stop is = Unit {0}
+Behind nv _ is = Unit {0}
 
 -- it is known behind each of these instructions
 abbrev pub Insides : ℕ → List Instruction → Type 0

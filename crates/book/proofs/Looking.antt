@@ -1,5 +1,5 @@
 -- Looking ahead passes over a formed stretch, so that the else of an if is found right behind its first part.
-use Rattle.std.proofs.Common.{◌≡◌, ℕ, suc, ◌+◌, ◌-◌, ◌<◌, ◌&&◌, eqb, ltb, List, ◌∷◌, ◌++◌, length, get_or, drop, Some, None, refl, ap, ◌∙◌, arith}
+use Rattle.std.proofs.Common.{◌≡◌, ℕ, suc, ◌+◌, ◌<◌, ltb, List, ◌∷◌, ◌++◌, length, get_or, drop, Some, None, refl, ap, ◌∙◌, arith}
 use lib.Seq.{drop-append-add}
 use Rattle.book.specs.declared.instruction.Instruction.{Instruction}
 use Rattle.book.specs.declared.instruction.Instruction.TheVariants.{Stop, If, Else, End}
@@ -7,32 +7,34 @@ use Rattle.book.specs.Forms.{Formed, ends, number, figure, clock, operate, store
 use Rattle.book.specs.Looks.{seek, is_if, matching_else, ElseLaw}
 use Rattle.book.specs.Trees.{Code, flat}
 use Rattle.std.proofs.lemmas.List.{append_assoc, length-append, get_or_at}
-use Rattle.std.proofs.lemmas.Bool.{and_from, and_right, cond-true, cond-false, lt-ltb, ne_eqb}
+use Rattle.std.proofs.lemmas.Bool.{and_right, lt-ltb}
 
 -- the same look ahead from places that are the same
 moved : (e p q : ℕ) (is : List Instruction) → p ≡ q → seek e p is ≡ seek e q is
 moved e p q is same = ap (λ x. seek e x is) same
 
+-- behind a plain instruction and n more
+one_on : (e p n : ℕ) (is : List Instruction) → seek e (p + 1 + n) is ≡ seek e (p + suc n) is
+one_on e p n is = moved e (p + 1 + n) (p + suc n) is (omega arith)
+
 -- an else of an inner block is passed over
 pass_else : (e p : ℕ) (is : List Instruction) → seek (e + 1) p (Else ∷ is) ≡ seek (e + 1) (p + 1) is
-pass_else e p is = cond-false (eqb (e + 1) 0) (Some p) (seek (e + 1) (p + 1) is) (ne_eqb (e + 1) 0 (λ z. omega arith))
+pass_else e p is = grind arith
 
 -- the end of an inner block closes it
 pass_end : (e p : ℕ) (is : List Instruction) → seek (e + 1) p (End ∷ is) ≡ seek e (p + 1) is
-pass_end e p is =
-    let closed : e + 1 - 1 ≡ e = omega arith in
-    cond-false (eqb (e + 1) 0) None (seek (e + 1 - 1) (p + 1) is) (ne_eqb (e + 1) 0 (λ z. omega arith)) ∙ ap (λ x. seek x (p + 1) is) closed
+pass_end e p is = grind arith
 
 -- By induction on how the stretch is formed: a plain instruction moves on by one place, and a block is open just as long
 -- as its parts last.
 pub seek_flat : {nv d h : ℕ} {c : Code} → Formed nv d h c → (e p : ℕ) (is : List Instruction) → seek e p (flat c ++ is) ≡ seek e (p + length (flat c)) is
 seek_flat ends e p is = moved e p (p + 0) is (omega arith)
-seek_flat (number {c} r f) e p is = seek_flat f e (p + 1) is ∙ moved e (p + 1 + length (flat c)) (p + suc (length (flat c))) is (omega arith)
-seek_flat (figure {c} b r f) e p is = seek_flat f e (p + 1) is ∙ moved e (p + 1 + length (flat c)) (p + suc (length (flat c))) is (omega arith)
-seek_flat (clock {c} r f) e p is = seek_flat f e (p + 1) is ∙ moved e (p + 1 + length (flat c)) (p + suc (length (flat c))) is (omega arith)
-seek_flat (operate {c} f) e p is = seek_flat f e (p + 1) is ∙ moved e (p + 1 + length (flat c)) (p + suc (length (flat c))) is (omega arith)
-seek_flat (store {c} b f) e p is = seek_flat f e (p + 1) is ∙ moved e (p + 1 + length (flat c)) (p + suc (length (flat c))) is (omega arith)
-seek_flat (wait {c} b f) e p is = seek_flat f e (p + 1) is ∙ moved e (p + 1 + length (flat c)) (p + suc (length (flat c))) is (omega arith)
+seek_flat (number {c} r f) e p is = seek_flat f e (p + 1) is ∙ one_on e p (length (flat c)) is
+seek_flat (figure {c} b r f) e p is = seek_flat f e (p + 1) is ∙ one_on e p (length (flat c)) is
+seek_flat (clock {c} r f) e p is = seek_flat f e (p + 1) is ∙ one_on e p (length (flat c)) is
+seek_flat (operate {c} f) e p is = seek_flat f e (p + 1) is ∙ one_on e p (length (flat c)) is
+seek_flat (store {c} b f) e p is = seek_flat f e (p + 1) is ∙ one_on e p (length (flat c)) is
+seek_flat (wait {c} b f) e p is = seek_flat f e (p + 1) is ∙ one_on e p (length (flat c)) is
 seek_flat (one_part {f} {c} q r) e p is =
     let F = length (flat f) in
     ap (λ l. seek (e + 1) (p + 1) l) (append_assoc (flat f) (End ∷ flat c) is)
@@ -69,8 +71,7 @@ seek_end q p r = seek_flat q 0 p (End ∷ r)
 
 -- where an if stands, the look ahead goes on right behind it
 pub at_if : (is : List Instruction) (p : ℕ) → p < length is → get_or is p Stop ≡ If → matching_else is p ≡ seek 0 (p + 1) (drop (p + 1) is)
-at_if is p within e =
-    cond-true (ltb p (length is) && is_if (get_or is p Stop)) (seek 0 (p + 1) (drop (p + 1) is)) None (and_from (ltb p (length is)) (is_if (get_or is p Stop)) (lt-ltb p (length is) within) (ap is_if e))
+at_if is p within e = rw (lt-ltb p (length is) within, e)
 
 -- the same, with what stands before the if
 pub from_if : (front back : List Instruction) → matching_else (front ++ (If ∷ back)) (length front) ≡ seek 0 (length front + 1) back
@@ -86,5 +87,5 @@ pub else_law : ElseLaw
 else_law = record {
   with_else = λ front back f q. from_if front (flat f ++ (Else ∷ back)) ∙ seek_else q (length front + 1) back;
   without = λ front back f q. from_if front (flat f ++ (End ∷ back)) ∙ seek_end q (length front + 1) back;
-  no_if = λ is p t. cond-false (ltb p (length is) && is_if (get_or is p Stop)) (seek 0 (p + 1) (drop (p + 1) is)) None (and_right (ltb p (length is)) (is_if (get_or is p Stop)) t);
+  no_if = λ is p t. rw (and_right (ltb p (length is)) (is_if (get_or is p Stop)) t);
 }

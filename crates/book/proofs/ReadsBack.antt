@@ -1,17 +1,16 @@
 -- The encoding of a well-formed book is read as that book.
-use Rattle.std.proofs.Common.{◌≡◌, ℕ, ◌+◌, ◌*◌, ◌/◌, ◌%◌, ◌≤◌, cond, eqb, ltb, List, [], ◌∷◌, ◌++◌, map, length, Ok, Err, sym, refl, ap, ◌∙◌, subst, ap₂, arith, w32, SFits}
-use Rattle.book.proofs.Bytes.{code_at, code_field, word_field, long_field, words_fields, longs_fields, raws_codes, raws_arguments, raws_same, raw_codes, raw_arguments, codes_joined, arguments_joined}
-use Rattle.book.proofs.FieldLaws.{fields, length-joined, fields_written}
+use Rattle.std.proofs.Common.{◌≡◌, ℕ, ◌+◌, ◌*◌, ◌/◌, ◌%◌, ◌≤◌, List, [], ◌∷◌, ◌++◌, map, length, Ok, sym, refl, ap, ◌∙◌, subst, ap₂, arith, w32, SFits}
+use Rattle.book.proofs.Bytes.{code_at, code_field, word_field, long_field, raws_codes, raws_arguments, raws_same, raw_codes, raw_arguments, codes_joined, arguments_joined}
+use Rattle.book.proofs.FieldLaws.{length-joined, fields_written}
 use Rattle.book.proofs.Parses.{all_formed}
 use Rattle.book.proofs.Sounds.{whole_passes}
 use Rattle.book.specs.Codes.{code_of, argument_of}
-use Rattle.refusal.specs.declared.reader.ReaderFault.TheVariants.{Length, TooManyFigures, TooManyInstructions}
 use Rattle.book.specs.Encodings.{two, four, argument_bytes, encode, EventFormed, WellFormed}
-use Rattle.book.specs.Reads.{BookModel, word, long, words, longs, raw, raws, scan, finished, read_code, bound, read_body, read_sized, reading}
+use Rattle.book.specs.Reads.{BookModel, fields, long, words, longs, raw, raws, scan, finished, read_code, bound, reading}
 use Rattle.book.specs.Trees.{event_weight}
 use Rattle.std.proofs.ByRecursion.{All-weaker, All-map}
 use Rattle.std.proofs.lemmas.List.{append_assoc, append-nil, length-append, length-map}
-use Rattle.std.proofs.lemmas.Bool.{cond-true, cond-false, le-ltb, eq-eqb}
+use Rattle.std.proofs.lemmas.Bool.{le-ltb, eq-eqb}
 use Rattle.std.specs.List.{flat_map, AllByRecursion}
 
 -- a code always fits its field
@@ -94,14 +93,11 @@ module _ (b : BookModel) (w : WellFormed b) where
 
   -- each part is read back
   levels_back : words (length b.levels) 6 (encode b) ≡ b.levels
-  levels_back =
-      words_fields (length b.levels) 6 (encode b)
-      ∙ fields_written word_field b.levels w.levels_fit front (starts_part ++ (codes_part ++ arguments_part)) 6 refl
+  levels_back = fields_written word_field b.levels w.levels_fit front (starts_part ++ (codes_part ++ arguments_part)) 6 refl
 
   starts_back : longs (length b.levels) (6 + 2 * length b.levels) (encode b) ≡ b.starts
   starts_back =
-      longs_fields (length b.levels) (6 + 2 * length b.levels) (encode b)
-      ∙ ap₂ (λ n bs. fields 4 long n (6 + 2 * length b.levels) bs) (sym w.starts_too) at_starts
+      ap₂ (λ n bs. fields 4 long n (6 + 2 * length b.levels) bs) (sym w.starts_too) at_starts
       ∙ fields_written long_field b.starts w.starts_fit (front ++ levels_part) (codes_part ++ arguments_part) (6 + 2 * length b.levels) place_starts
 
   codes_back : fields 1 code_at (length b.code) (6 + 6 * length b.levels) (encode b) ≡ map code_of b.code
@@ -142,9 +138,13 @@ module _ (b : BookModel) (w : WellFormed b) where
       let nv = length b.levels in
       let nc = length b.code in
       let size = length-encode in
-      cond-false (ltb (length bs) 6) (Err Length) (read_sized (word bs 0) (word bs 2) bs) (le-ltb (length bs) 6 (omega arith))
-      ∙ ap₂ (λ x y. read_sized x y bs) (halves nv) (halves nc)
-      ∙ cond-false (ltb 32 nv) (Err TooManyFigures) (cond (ltb 256 nc) (Err TooManyInstructions) (cond (eqb (length bs) (6 + 6 * nv + 5 * nc)) (read_body nv nc bs) (Err Length))) (le-ltb 32 nv w.figures)
-      ∙ cond-false (ltb 256 nc) (Err TooManyInstructions) (cond (eqb (length bs) (6 + 6 * nv + 5 * nc)) (read_body nv nc bs) (Err Length)) (le-ltb 256 nc w.instructions)
-      ∙ cond-true (eqb (length bs) (6 + 6 * nv + 5 * nc)) (read_body nv nc bs) (Err Length) (eq-eqb (length bs) (6 + 6 * nv + 5 * nc) size)
-      ∙ λ i. bound (halves b.clock i) (levels_back i) (starts_back i) (code_back i)
+      let long_enough : 6 ≤ length bs = omega arith in
+      rw (
+        le-ltb (length bs) 6 long_enough,
+        halves nv,
+        halves nc,
+        le-ltb 32 nv w.figures,
+        le-ltb 256 nc w.instructions,
+        eq-eqb (length bs) (6 + 6 * nv + 5 * nc) size,
+      )
+      (λ i. bound (halves b.clock i) (levels_back i) (starts_back i) (code_back i))

@@ -7,12 +7,9 @@ module _ {X : Type 0} (F : ℕ → ℕ → List X) (f : ℕ → X) (step : ℕ) 
   pub ahead_more : (n i p q : ℕ) → i < n → q ≡ p + step → F (n - i) p ≡ f p ∷ F (n - (i + 1)) q
   ahead_more n i p q h e =
       let fewer : n - i ≡ suc (n - (i + 1)) = omega arith in
-      ap (λ k. F k p) fewer ∙ more (n - (i + 1)) p ∙ ap (λ k. f p ∷ F (n - (i + 1)) k) (sym e)
+      rw (fewer, more (n - (i + 1)) p, e)
 
   pub row_more : (row all : List X) (n i p q : ℕ) (x : X) → i < n → i < length row → q ≡ p + step → x ≡ f p → take i row ++ F (n - i) p ≡ all → take (i + 1) (set row i x) ++ F (n - (i + 1)) q ≡ all
   row_more row all n i p q x h l e is inv =
-      ap (λ xs. xs ++ F (n - (i + 1)) q) (take_more_set row i x l)
-      ∙ append_assoc (take i row) (x ∷ []) (F (n - (i + 1)) q)
-      ∙ ap (λ y. take i row ++ (y ∷ F (n - (i + 1)) q)) is
-      ∙ ap (λ xs. take i row ++ xs) (sym (ahead_more n i p q h e))
-      ∙ inv
+      rw (take_more_set row i x l, append_assoc (take i row) (x ∷ []) (F (n - (i + 1)) q), is)
+      (ap (λ xs. take i row ++ xs) (sym (ahead_more n i p q h e)) ∙ inv)

@@ -108,10 +108,8 @@ end_grown nv [] a r u s = absurd (false≢true u)
 end_grown nv (b ∷ bs) a r u s = record { shape = ended {d = 8 - suc (length bs)} (omega arith) ends s; says = refl }
 
 else_grown : (nv : ℕ) (bs : List Block) (a : Ahead) → length bs ≤ 8 → in_first bs ≡ true → Shape nv 0 (SecondPart ∷ outer bs) a → Grown nv 0 bs Else a
-else_grown nv [] a r u s = absurd (false≢true u)
 else_grown nv (FirstPart ∷ bs) a r u s = record { shape = elsed {d = 8 - suc (length bs)} (omega arith) ends s; says = refl }
-else_grown nv (SecondPart ∷ bs) a r u s = absurd (false≢true u)
-else_grown nv (Turns ∷ bs) a r u s = absurd (false≢true u)
+else_grown nv _ a r u s = absurd (false≢true u)
 
 -- nothing is open at a stop
 nothing_open : (bs : List Block) → fits_nesting Stop bs ≡ true → [] ≡ bs
@@ -159,32 +157,17 @@ else_room [] r u = absurd (false≢true u)
 else_room (b ∷ bs) r u = r
 
 room_after : (i : Instruction) (bs : List Block) → length bs ≤ 8 → fits_nesting i bs ≡ true → length (blocks_after i bs) ≤ 8
-room_after (Number z) bs r u = r
-room_after (Figure v) bs r u = r
-room_after Clock bs r u = r
-room_after (Operate o) bs r u = r
-room_after (Store v) bs r u = r
 room_after If bs r u = ltb-true (length bs) 8 u
 room_after (Repeat n) bs r u = ltb-true (length bs) 8 u
-room_after (Wait n) bs r u = r
 room_after Else bs r u = else_room bs r u
 room_after End bs r u = outer_room bs r
-room_after Stop bs r u = r
+room_after _ bs r u = r
 
 -- the last instruction is a stop, with nothing on the stack and nothing open
 last_grown : (nv h : ℕ) (bs : List Block) (i : Instruction) → fits_height i h ≡ true → fits_nesting i bs ≡ true → is_stop i ≡ true → Grown nv h bs i (last done)
-last_grown nv h bs (Number z) t u s = absurd (false≢true s)
-last_grown nv h bs (Figure v) t u s = absurd (false≢true s)
-last_grown nv h bs Clock t u s = absurd (false≢true s)
-last_grown nv h bs (Operate o) t u s = absurd (false≢true s)
-last_grown nv h bs (Store v) t u s = absurd (false≢true s)
-last_grown nv h bs If t u s = absurd (false≢true s)
-last_grown nv h bs (Repeat n) t u s = absurd (false≢true s)
-last_grown nv h bs (Wait n) t u s = absurd (false≢true s)
-last_grown nv h bs Else t u s = absurd (false≢true s)
-last_grown nv h bs End t u s = absurd (false≢true s)
 last_grown nv h bs Stop t u s =
     subst₂ (λ x y. Grown nv x y Stop (last done)) (sym (eqb-true h 0 t)) (nothing_open bs u) (record { shape = stop_last ends; says = refl })
+last_grown nv h bs _ t u s = absurd (false≢true s)
 
 -- By induction on the instructions, each put in front of the shape of what follows it.
 pub shaped : (nv h : ℕ) (bs : List Block) (i : Instruction) (is : List Instruction) → length bs ≤ 8 → Fitting nv h bs (i ∷ is) → stops_last (i ∷ is) ≡ true → Shape nv h bs (parse (i ∷ is)) × (text (parse (i ∷ is)) ≡ i ∷ is)

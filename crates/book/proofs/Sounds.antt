@@ -15,7 +15,7 @@ use Rattle.book.specs.declared.block.Block.{Block}
 use Rattle.book.specs.Forms.{Formed}
 use Rattle.book.specs.Reads.{Raw, raw, height_after, blocks_after, scan, stops_last, heavy, light, finished, sound}
 use Rattle.book.specs.Trees.{Code, flat, whole, parse, events, event_weight}
-use Rattle.std.proofs.lemmas.Bool.{cond-true, cond-false, ltb-false, le-ltb}
+use Rattle.std.proofs.lemmas.Bool.{ltb-false, le-ltb}
 use Rattle.std.specs.List.{AllByRecursion}
 
 -- where no event is heavy each is light
@@ -30,9 +30,7 @@ heavy_none p (c ∷ cs) e =
 -- and the other way round
 pub heavy_light : (p : ℕ) (es : List Code) → AllByRecursion (λ e. event_weight e ≤ 100000) es → heavy p es ≡ None
 heavy_light p [] a = refl
-heavy_light p (c ∷ cs) a =
-    cond-false (ltb 100000 (event_weight c)) (Some p) (heavy (p + (length (flat c) + 1)) cs) (le-ltb 100000 (event_weight c) a.0)
-    ∙ heavy_light (p + (length (flat c) + 1)) cs a.1
+heavy_light p (c ∷ cs) a = rw (le-ltb 100000 (event_weight c) a.0) (heavy_light (p + (length (flat c) + 1)) cs a.1)
 
 -- what was asked of code that was let pass
 pub record Finished (r : Result (List Instruction) ReaderFault) (is : List Instruction) : Type 0 where
@@ -58,9 +56,7 @@ finished_ok (Err f) is e = absurd (err_ok f is e)
 
 -- code that a stop ends and none of whose events is heavy is let pass
 pub finished_passes : (is : List Instruction) → stops_last is ≡ true → heavy 0 (events is) ≡ None → finished (Ok is) ≡ Ok is
-finished_passes is s h =
-    cond-true (stops_last is) (light (heavy 0 (events is)) is) (Err (Nesting (length is))) s
-    ∙ ap (λ o. light o is) h
+finished_passes is s h = rw (s, h)
 
 -- A scan of instructions as bytes answers those instructions or a fault: by induction, since a code and an argument that
 -- came from an instruction stand for no other.

@@ -8,7 +8,6 @@ use Rattle.refusal.specs.declared.reader.ReaderFault.TheVariants.{Argument, Heig
 use Rattle.book.specs.declared.instruction.Instruction.{Instruction}
 use Rattle.book.specs.declared.block.Block.{Block}
 use Rattle.book.specs.Reads.{Raw, raw, fits_height, height_after, fits_nesting, blocks_after, onto, placed, scan}
-use Rattle.std.proofs.lemmas.Bool.{cond-true}
 
 -- each instruction may stand where it stands, from h amounts and the blocks bs on
 abbrev pub Fitting : ℕ → ℕ → List Block → List Instruction → Type 0
@@ -58,10 +57,7 @@ scan_back nv p h bs (r ∷ rs) is e =
 
 -- a step at an instruction that fits
 pub placed_fits : (p h : ℕ) (bs : List Block) (o : Option Instruction) (i : Instruction) (next : Instruction → Result (List Instruction) ReaderFault) → o ≡ Some i → fits_height i h ≡ true → fits_nesting i bs ≡ true → placed p h bs o next ≡ onto i (next i)
-placed_fits p h bs o i next e t u =
-    ap (λ x. placed p h bs x next) e
-    ∙ cond-true (fits_height i h) (cond (fits_nesting i bs) (onto i (next i)) (Err (Nesting p))) (Err (Height p)) t
-    ∙ cond-true (fits_nesting i bs) (onto i (next i)) (Err (Nesting p)) u
+placed_fits p h bs o i next e t u = rw (e, t, u)
 
 -- instructions that fit, as bytes, are scanned to themselves
 pub scan_fits : (nv p h : ℕ) (bs : List Block) (is : List Instruction) → Fitting nv h bs is → scan nv p h bs (map raw is) ≡ Ok is

@@ -1,5 +1,5 @@
 -- Weighing a stretch one instruction after the other comes to its weight, up to the first weight above the limit.
-use Rattle.std.proofs.Common.{◌≡◌, ℕ, suc, ◌+◌, ◌*◌, ◌<◌, ◌≤◌, max, cond, ltb, List, [], ◌∷◌, ◌++◌, length, Some, refl, ap, ◌∙◌, ⊎_elim, mul-le-mul_left, mul-one, arith}
+use Rattle.std.proofs.Common.{◌≡◌, ℕ, suc, ◌+◌, ◌*◌, ◌<◌, ◌≤◌, max, ltb, List, [], ◌∷◌, ◌++◌, length, refl, ap, ◌∙◌, ⊎_elim, mul-le-mul_left, mul-one, arith}
 use Rattle.book.specs.declared.instruction.Instruction.{Instruction}
 use Rattle.book.specs.declared.instruction.Instruction.TheVariants.{Stop, Else, End}
 use Rattle.book.specs.Forms.{Formed, ends, number, figure, clock, operate, store, wait, one_part, two_parts, turns}
@@ -8,7 +8,7 @@ use Rattle.book.specs.Trees.{Code, flat, whole, weight}
 use Rattle.book.specs.Weighs.{capped, factor, heaviest}
 use Rattle.stack.specs.Stacks.{pushed}
 use Rattle.std.proofs.lemmas.List.{append_assoc, length-append}
-use Rattle.std.proofs.lemmas.Bool.{cond-true, lt-ltb, cases_lt}
+use Rattle.std.proofs.lemmas.Bool.{lt-ltb, cases_lt}
 use Rattle.std.proofs.lemmas.Bool.Decides.{nat_tests}
 use Rattle.std.specs.List.{AllByRecursion}
 
@@ -37,7 +37,7 @@ inside K n = ⊎_elim (λ h. small h) (λ h. large h) (cases_lt K 100001)
     large h = omega (arith, over (capped K) (max n 1) (omega arith) (omega arith), over K (max 1 n) h (omega arith))
 
 push : (k : ℕ) (ks : List ℕ) (d : ℕ) → length ks + suc d ≡ 8 → pushed k ks ≡ k ∷ ks
-push k ks d e = cond-true (ltb (length ks) 8) (k ∷ ks) ks (lt-ltb (length ks) 8 (omega arith))
+push k ks d e = let room : length ks < 8 = omega arith in rw (lt-ltb (length ks) 8 room)
 
 -- a plain instruction in front of a stretch of L instructions that weighs w
 plain_more : (s p T K L w : ℕ) (ks : List ℕ) (fs is : List Instruction) → factor ks ≡ capped K → heaviest (p + 1) s (capped (T + K)) ks (fs ++ is) ≡ heaviest (p + 1 + L) s (capped (T + K + w)) ks is → heaviest (p + 1) s (capped (capped T + factor ks)) ks (fs ++ is) ≡ heaviest (p + suc L) s (capped (T + (K + w))) ks is
@@ -111,6 +111,4 @@ heaviest_heavy nv (e ∷ es) a p =
     let next : q + 1 ≡ p + (length (flat e) + 1) = omega arith in
     let test : ltb 100000 (capped (capped (0 + w) + 1)) ≡ ltb 100000 (w + 1) = grind (arith, nat_tests) in
     weigh_flat a.0 p p 0 1 [] (Stop ∷ whole es) refl refl
-    ∙ ap (λ x. cond (ltb 100000 (capped (capped (0 + w) + 1))) (Some p) (heaviest x x 0 [] (whole es))) next
-    ∙ ap (λ b. cond b (Some p) (heaviest (p + (length (flat e) + 1)) (p + (length (flat e) + 1)) 0 [] (whole es))) test
-    ∙ ap (λ x. cond (ltb 100000 (w + 1)) (Some p) x) (heaviest_heavy nv es a.1 (p + (length (flat e) + 1)))
+    ∙ rw (next, test, heaviest_heavy nv es a.1 (p + (length (flat e) + 1)))

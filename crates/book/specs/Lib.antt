@@ -3,7 +3,6 @@ pub mod Trees
 pub mod Forms
 pub mod Reads
 pub mod Encodings
-pub mod Counts
 pub mod Looks
 pub mod Sights
 pub mod Weighs

@@ -26,15 +26,19 @@ word bs at = slice_index bs at * 256 + slice_index bs (at + 1)
 abbrev pub long : List ℕ → ℕ → ℤ
 long bs at = to_z w32 (slice_index bs at * 16777216 + slice_index bs (at + 1) * 65536 + slice_index bs (at + 2) * 256 + slice_index bs (at + 3))
 
+-- n fields of one size from a place on, each read in the same way
+module _ {X : Type 0} (size : ℕ) (read : List ℕ → ℕ → X) where
+  abbrev pub fields : ℕ → ℕ → List ℕ → List X
+  fields zero at bs = []
+  fields (suc n) at bs = read bs at ∷ fields n (at + size) bs
+
 -- n numbers of two bytes from a place on
 abbrev pub words : ℕ → ℕ → List ℕ → List ℕ
-words zero at bs = []
-words (suc n) at bs = word bs at ∷ words n (at + 2) bs
+words n at bs = fields 2 word n at bs
 
 -- n numbers of four bytes from a place on
 abbrev pub longs : ℕ → ℕ → List ℕ → List ℤ
-longs zero at bs = []
-longs (suc n) at bs = long bs at ∷ longs n (at + 4) bs
+longs n at bs = fields 4 long n at bs
 
 -- an instruction before it is decoded
 pub record Raw : Type 0 where

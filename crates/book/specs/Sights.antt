@@ -1,12 +1,16 @@
 -- What one step of a look ahead answers.
-use Rattle.std.specs.Prelude.{◌≡◌, ℕ, ◌+◌, ◌≤◌, Some, None, Option}
-use Rattle.book.specs.declared.cursor.Sight.{Sight}
-use Rattle.book.specs.declared.cursor.Sight.TheVariants.{Found, Nothing, Further}
+use Rattle.std.specs.Prelude.{◌≡◌, ℕ, ◌+◌, ◌≤◌, Bool, true, false, cond, Some, None, Option}
 use Rattle.book.specs.declared.instruction.Instruction.{Instruction}
+use Rattle.book.specs.declared.instruction.Instruction.TheVariants.{Else}
 use Rattle.book.specs.Looks.{met}
 
--- the instruction i with d blocks open, seen as this, whatever comes behind it
-abbrev pub Sees : Instruction → ℕ → Sight → Type 0
-Sees i d Found = (p : ℕ) (next : ℕ → Option ℕ) → met i d p next ≡ Some p
-Sees i d Nothing = (p : ℕ) (next : ℕ → Option ℕ) → met i d p next ≡ None
-Sees i d (Further e) = (e ≤ d + 1) × ((p : ℕ) (next : ℕ → Option ℕ) → met i d p next ≡ next e)
+-- whether an instruction is an else
+abbrev pub is_else : Instruction → Bool
+is_else Else = true
+is_else _ = false
+
+-- how many blocks are open behind the instruction i with d blocks open, whatever comes behind it; with none, the look
+-- ahead ends at i, which is the else that is looked for if it is an else
+abbrev pub Sees : Instruction → ℕ → Option ℕ → Type 0
+Sees i d None = (p : ℕ) (next : ℕ → Option ℕ) → met i d p next ≡ cond (is_else i) (Some p) None
+Sees i d (Some e) = (e ≤ d + 1) × ((p : ℕ) (next : ℕ → Option ℕ) → met i d p next ≡ next e)

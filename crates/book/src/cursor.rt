@@ -1,7 +1,7 @@
 // A place in code, and looking ahead from it.
 ghost use Rattle.std.specs.Prelude.{◌≡◌, ◌+◌, ◌^◌, ◌<◌, length, drop};
 ghost use Rattle.book.specs.Sights.{Sees};
-ghost use Rattle.book.specs.Looks.{ElseLaw, is_if, matching_else, seek as seek_from};
+ghost use Rattle.book.specs.Looks.{ElseLaw, matching_else, seek as seek_from};
 
 use crate::instruction::Instruction;
 
@@ -29,62 +29,23 @@ impl Drop for Lookahead<'_> {
     }
 }
 
-fn is_if(instruction: Instruction) -> bool
-    ensures { result ≡ is_if instruction }
-{
-    match instruction {
-        Instruction::If => true,
-        Instruction::Stop
-        | Instruction::Number(_)
-        | Instruction::Figure(_)
-        | Instruction::Clock
-        | Instruction::Operate(_)
-        | Instruction::Store(_)
-        | Instruction::Repeat(_)
-        | Instruction::Wait(_)
-        | Instruction::Else
-        | Instruction::End => false,
-    }
-}
-
-// What an instruction means to a look ahead.
-enum Sight {
-    // the else that is looked for
-    Found,
-    // the block or the event ends
-    Nothing,
-    // this many blocks are open behind it
-    Further(usize),
-}
-
-// What an instruction means where `depth` blocks have opened on the way.
-fn look_at(instruction: Instruction, depth: usize) -> Sight
+// How many blocks are open behind an instruction where `depth` have opened on the way to it, unless it ends the look
+// ahead.
+fn depth_behind(instruction: Instruction, depth: usize) -> Option<usize>
     requires { depth + 1 < 2 ^ 64 }
     ensures { Sees instruction depth result }
 {
     match instruction {
-        Instruction::If | Instruction::Repeat(_) => Sight::Further(depth + 1),
-        Instruction::Else => {
-            if depth == 0 {
-                Sight::Found
-            } else {
-                Sight::Further(depth)
-            }
-        }
-        Instruction::End => {
-            if depth == 0 {
-                Sight::Nothing
-            } else {
-                Sight::Further(depth - 1)
-            }
-        }
-        Instruction::Stop => Sight::Nothing,
+        Instruction::If | Instruction::Repeat(_) => Some(depth + 1),
+        Instruction::Else => (depth > 0).then_some(depth),
+        Instruction::End => depth.checked_sub(1),
+        Instruction::Stop => None,
         Instruction::Number(_)
         | Instruction::Figure(_)
         | Instruction::Clock
         | Instruction::Operate(_)
         | Instruction::Store(_)
-        | Instruction::Wait(_) => Sight::Further(depth),
+        | Instruction::Wait(_) => Some(depth),
     }
 }
 
@@ -96,22 +57,17 @@ impl Lookahead<'_> {
         ensures lent { self.new.cursor.ghost_name ≡ self.old.cursor.ghost_name }
     {
         let mut depth = 0usize;
-        while self.cursor.place < code.len() {
-            match look_at(code[self.cursor.place], depth) {
-                Sight::Found => return Some(self.cursor.place),
-                Sight::Nothing => return None,
-                Sight::Further(behind) => depth = behind,
-            }
+        // The place is the cursor's, which the guard puts back, so the loop moves it by hand.
+        while let Some(instruction) = code.get(self.cursor.place) {
+            let Some(behind) = depth_behind(*instruction, depth) else {
+                return matches!(instruction, Instruction::Else).then_some(self.cursor.place);
+            };
+            depth = behind;
             self.cursor.place += 1;
         }
         None
     }
 }
-
-// Changes nothing: a call brings the law of matching elses into its caller's proof.
-fn else_law()
-    ensures { ElseLaw }
-{}
 
 impl Cursor {
     pub fn new(place: usize) -> Self
@@ -127,18 +83,18 @@ impl Cursor {
     }
 
     // The place of the else that belongs to the if at the cursor. The cursor stays where it is.
+    #[tactic(auto, using(crate::proofs::Looking::else_law))]
     pub fn matching_else(&mut self, code: &[Instruction]) -> Option<usize>
         ensures found { result ≡ matching_else code.now self.old.place }
         ensures same { self.new.place ≡ self.old.place }
         ensures law { ElseLaw }
     {
-        else_law();
         let start = self.place;
         let mut ahead = Lookahead {
             cursor: self,
             start,
         };
-        if start >= code.len() || !is_if(code[start]) {
+        if !matches!(code.get(start), Some(Instruction::If)) {
             return None;
         }
         ahead.cursor.place = start + 1;

@@ -1,14 +1,14 @@
 // The instructions of a rule book, with their arguments.
 
-// The six operations on the top two amounts.
+// The six operations on the top two amounts, with their codes in a book's bytes.
 #[derive(Clone, Copy, PartialEq, Eq, Debug)]
 pub enum Operation {
-    Add,
-    Subtract,
-    Multiply,
-    Divide,
-    Less,
-    Equal,
+    Add = 4,
+    Subtract = 5,
+    Multiply = 6,
+    Divide = 7,
+    Less = 8,
+    Equal = 9,
 }
 
 // One instruction. A figure is a variable of the book, named by its number.

@@ -1,5 +1,7 @@
-// What a row of the table may choose for its scale and for its meter.
-use crate::text::number;
+// What a row of the table may choose for its scale and for its meter. A script chooses from fewer kinds, and spells them
+// in another way, so the choices are two types each.
+use spelling::{SpellingFault, read_number};
+use std::str::FromStr;
 
 #[derive(Clone, Copy)]
 pub(crate) enum ScaleChoice {
@@ -15,57 +17,55 @@ pub(crate) enum MeterChoice {
     Uneven(u8),
 }
 
-impl ScaleChoice {
+impl FromStr for ScaleChoice {
+    type Err = SpellingFault;
+
     // `ladder:N`, `departments:D` or `diamond`.
-    pub(crate) fn parse(word: &str) -> Option<ScaleChoice> {
+    fn from_str(word: &str) -> Result<ScaleChoice, SpellingFault> {
         if word == "diamond" {
-            return Some(ScaleChoice::Diamond);
+            return Ok(ScaleChoice::Diamond);
         }
-        let (name, size) = word.split_once(':')?;
-        let size = number(size)?;
-        match name {
-            "ladder" => Some(ScaleChoice::Ladder(size)),
-            "departments" => Some(ScaleChoice::Departments(size)),
-            _ => None,
+        match word.split_once(':') {
+            Some(("ladder", ranks)) => Ok(ScaleChoice::Ladder(read_number(ranks)?)),
+            Some(("departments", count)) => Ok(ScaleChoice::Departments(read_number(count)?)),
+            _ => Err(SpellingFault::Malformed),
         }
     }
 }
 
-impl MeterChoice {
+impl FromStr for MeterChoice {
+    type Err = SpellingFault;
+
     // `card:C1,..,C12`, `digit` or `uneven:C`.
-    pub(crate) fn parse(word: &str) -> Option<MeterChoice> {
+    fn from_str(word: &str) -> Result<MeterChoice, SpellingFault> {
         if word == "digit" {
-            return Some(MeterChoice::Digit);
+            return Ok(MeterChoice::Digit);
         }
-        let (name, figures) = word.split_once(':')?;
-        match name {
-            "card" => Some(MeterChoice::Card(charges(figures)?)),
-            "uneven" => Some(MeterChoice::Uneven(instruction_code(figures)?)),
-            _ => None,
+        match word.split_once(':') {
+            Some(("card", charges)) => Ok(MeterChoice::Card(read_charges(charges)?)),
+            Some(("uneven", code)) => Ok(MeterChoice::Uneven(read_code(code)?)),
+            _ => Err(SpellingFault::Malformed),
         }
     }
 }
 
 // The twelve charges of a card, with commas between them.
-fn charges(list: &str) -> Option<[u32; 12]> {
+fn read_charges(list: &str) -> Result<[u32; 12], SpellingFault> {
     let mut charges = [0; 12];
-    let mut count = 0;
-    for charge in list.split(',') {
-        if count == 12 {
-            return None;
-        }
-        charges[count] = number(charge)?;
-        count += 1;
+    let mut words = list.split(',');
+    for charge in charges.iter_mut() {
+        *charge = read_number(words.next().ok_or(SpellingFault::Malformed)?)?;
     }
-    if count == 12 { Some(charges) } else { None }
+    if words.next().is_some() {
+        return Err(SpellingFault::Malformed);
+    }
+    Ok(charges)
 }
 
 // A code of 1 to 12.
-fn instruction_code(digits: &str) -> Option<u8> {
-    let code = number(digits)?;
-    if 1 <= code && code <= 12 {
-        Some(code as u8)
-    } else {
-        None
+fn read_code(word: &str) -> Result<u8, SpellingFault> {
+    match read_number(word)? {
+        code @ 1..=12 => Ok(code),
+        _ => Err(SpellingFault::Malformed),
     }
 }

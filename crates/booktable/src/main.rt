@@ -3,37 +3,27 @@
 #![tactic(auto)]
 
 mod choice;
-mod fault;
 mod row;
 mod ruling;
-mod text;
 
-use fault::RowFault;
-use line::{Verdict, write_line};
+use line::line_of;
 use row::Row;
+use spelling::SpellingFault;
 use std::alloc::Global;
 use std::io;
-use std::io::{BufRead, BufReader, ErrorKind};
+use std::io::{BufRead, BufReader};
 
-// The room for a verdict's line.
-const ROOM: usize = 32;
-
-// Whether a line of the table is there for its readers alone.
+// Whether a line of the table is there for its readers alone. A line of spaces is a row, which cannot be read; in a script
+// it is passed over.
 fn is_remark(line: &str) -> bool {
     line.is_empty() || line.starts_with('#')
 }
 
-fn print_verdict(rt: &HostRuntime, verdict: Verdict) -> io::Result<()> {
-    let mut buffer = [0; ROOM];
-    let length = write_line(verdict, &mut buffer).unwrap();
-    rt.write_all(&buffer[0..length])
-}
-
 fn answer(rt: &HostRuntime, heap: Global, line: &str) -> io::Result<()> {
     match Row::parse(heap, line) {
-        Ok(row) => print_verdict(rt, row.verdict()),
-        Err(RowFault::Malformed) => rt.println("error"),
-        Err(RowFault::Memory) => Err(ErrorKind::OutOfMemory.into()),
+        Ok(row) => rt.write_all(line_of(row.verdict()).as_bytes()),
+        Err(SpellingFault::Malformed) => rt.println("error"),
+        Err(SpellingFault::Memory(error)) => Err(error.into()),
     }
 }
 

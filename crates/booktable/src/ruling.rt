@@ -6,34 +6,29 @@ use flowcheck::verdict::judge;
 use line::Verdict;
 use meter::card::Card;
 use meter::digit::Digit;
-use refusal::MakerFault;
 use scale::departments::Departments;
 use scale::ladder::Ladder;
 use scale::scale::Scale;
 use trial::diamond::Diamond;
 use trial::uneven::Uneven;
 
-// The verdict under a scale and the chosen meter.
-fn rule_by<S: Scale>(scale: &S, meter: MeterChoice, bytes: &[u8]) -> Result<Verdict, MakerFault>
+// The verdict under a scale and the chosen meter; a card that cannot be made is a refusal too.
+fn rule_by<S: Scale>(scale: &S, meter: MeterChoice, bytes: &[u8]) -> Verdict
     ensures { Metered (S.Scale.meaning scale.now) meter bytes.now result }
 {
     match meter {
         MeterChoice::Card(charges) => {
             let mut card = Card::new();
             card.fill(&charges)?;
-            Ok(judge(scale, &card, bytes))
+            judge(scale, &card, bytes)
         }
-        MeterChoice::Digit => Ok(judge(scale, &Digit, bytes)),
-        MeterChoice::Uneven(code) => Ok(judge(scale, &Uneven::new(code), bytes)),
+        MeterChoice::Digit => judge(scale, &Digit, bytes),
+        MeterChoice::Uneven(code) => judge(scale, &Uneven::new(code), bytes),
     }
 }
 
-// The verdict under the chosen scale and the chosen meter.
-pub(crate) fn rule_under(
-    scale: ScaleChoice,
-    meter: MeterChoice,
-    bytes: &[u8],
-) -> Result<Verdict, MakerFault>
+// The verdict under the chosen scale and the chosen meter; what cannot be made is a refusal too.
+pub(crate) fn rule_under(scale: ScaleChoice, meter: MeterChoice, bytes: &[u8]) -> Verdict
     ensures { Ruled scale meter bytes.now result }
 {
     match scale {

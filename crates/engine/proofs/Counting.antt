@@ -3,11 +3,12 @@ use Rattle.std.proofs.Common.{◌≡◌, ℕ, ◌+◌, List, [], ◌∷◌, Some
 use Rattle.book.specs.Reads.{BookModel}
 use Rattle.flowcheck.specs.Checks.{checking_bytes}
 use Rattle.refusal.specs.declared.check.CheckFault.{CheckFault}
-use Rattle.engine.proofs.Asked.{refusing, neither}
+use Rattle.engine.proofs.Asked.{neither}
 use Rattle.refusal.specs.declared.engine.EngineFault.{EngineFault}
 use Rattle.engine.specs.Calls.{after, after_all, answering, next, public_loaded}
 use Rattle.engine.specs.Models.{Call, load, put, run, show, clock, open_slip, carry, withdraw, tally, EngineModel, Paper, Public, or_else, ask_apart, ask_figure, ask_level, ask_no_slip, ask_openings, ask_sight, ask_slip, refusal, with_book}
-use Rattle.engine.specs.Promises.{opening, carrying, withdrawing, counted, still_out}
+use Rattle.engine.specs.Outs.{still_out}
+use Rattle.engine.specs.Promises.{opening, carrying, withdrawing, counted}
 use Rattle.meter.specs.Meters.{MeterModel}
 use Rattle.scale.specs.Scales.{ScaleModel}
 
@@ -33,16 +34,16 @@ load_balances e (Err f) h = h
 -- no slip is out where that was asked and not refused, and one is where it had to be
 none_out : (o : Option Paper) → ask_no_slip o ≡ None → still_out o ≡ 0
 none_out None a = refl
-none_out (Some x) a = absurd (refusing a)
+none_out (Some x) a = cc
 
 one_out : (o : Option Paper) (x : Paper) → ask_slip o x ≡ None → still_out o ≡ 1
-one_out None x a = absurd (refusing a)
+one_out None x a = cc
 one_out (Some y) x a = refl
 
 module _ (s : ScaleModel) (m : MeterModel) where
   -- an opening is accepted only with no slip out
   opens_alone : (e : Public) (o : Option BookModel) (h from to : ℕ) → with_book o (λ b. or_else (ask_level s h) (or_else (ask_figure b from) (or_else (ask_figure b to) (or_else (ask_apart from to) (or_else (ask_sight s b h from) (or_else (ask_no_slip e.out) (ask_openings e.openings))))))) ≡ None → still_out e.out ≡ 0
-  opens_alone e None h from to a = absurd (refusing a)
+  opens_alone e None h from to a = cc
   opens_alone e (Some b) h from to a =
       none_out e.out (neither _ _ (neither (ask_sight s b h from) _ (neither (ask_apart from to) _ (neither (ask_figure b to) _ (neither (ask_figure b from) _ (neither (ask_level s h) _ a).1).1).1).1).1).0
 

@@ -5,7 +5,8 @@ use Rattle.engine.proofs.Steps.{steps, puts_step}
 use Rattle.engine.proofs.Twins.{Twins}
 use Rattle.engine.specs.Calls.{after_all, answer}
 use Rattle.engine.specs.Models.{counts, Call, tally, EngineModel, Public, fresh}
-use Rattle.engine.specs.Promises.{Pairs, none, same, puts, Possible, Promise, transcript, opening, carrying, withdrawing, counted, still_out}
+use Rattle.engine.specs.Outs.{still_out}
+use Rattle.engine.specs.Promises.{Pairs, none, same, puts, Possible, Promise, transcript, opening, carrying, withdrawing, counted}
 use Rattle.meter.specs.Meters.{MeterModel, Lawful as MeterLaws}
 use Rattle.scale.specs.Scales.{ScaleModel, Lawful as ScaleLaws}
 use Rattle.std.specs.List.{AllByRecursion}

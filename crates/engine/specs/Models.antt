@@ -6,7 +6,7 @@ use Rattle.book.specs.Trees.{events}
 use Rattle.flowcheck.specs.Checks.{checking_bytes}
 use Rattle.refusal.specs.declared.check.CheckFault.{CheckFault}
 use Rattle.refusal.specs.declared.engine.EngineFault.{EngineFault}
-use Rattle.refusal.specs.declared.engine.EngineFault.TheVariants.{Check, NoBook, NoSuch, UnknownLevel, Hidden, SlipOut, NotTheSlip, TooManyOpenings, SameFigure}
+use Rattle.refusal.specs.declared.engine.EngineFault.TheVariants.{Check, NoBook, NoSuch, UnknownLevel, Hidden, HiddenClock, SlipOut, NotTheSlip, TooManyOpenings, SameFigure}
 use Rattle.steps.specs.Runs.{State}
 use Rattle.meter.specs.Meters.{MeterModel}
 use Rattle.scale.specs.Scales.{ScaleModel}
@@ -89,7 +89,7 @@ ask_sight s b l v = unless (s.below (level_of b v) l) (Hidden v)
 
 -- 15: the clock's level is at or below the one given
 abbrev pub ask_clock : ScaleModel → BookModel → ℕ → Option EngineFault
-ask_clock s b l = unless (s.below b.clock l) (Hidden 32)
+ask_clock s b l = unless (s.below b.clock l) HiddenClock
 
 -- 19: the two figures are different
 abbrev pub ask_apart : ℕ → ℕ → Option EngineFault

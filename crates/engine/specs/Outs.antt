@@ -1,7 +1,7 @@
 -- How many slips are out.
 use Rattle.std.specs.Prelude.{ℕ, Some, None, Option}
-use Rattle.engine.specs.declared.slip.Numbers.{Numbers}
 
-abbrev pub out_count : Option Numbers → ℕ
-out_count None = 0
-out_count (Some n) = 1
+-- 1 if a slip is still out
+abbrev pub still_out : {A : Type 0} → Option A → ℕ
+still_out None = 0
+still_out (Some x) = 1

@@ -3,6 +3,7 @@ use Rattle.std.specs.Prelude.{◌≡◌, ℕ, ◌+◌, ◌<◌, true, cond, List
 use Rattle.book.specs.Reads.{BookModel}
 use Rattle.engine.specs.Calls.{after_all, answer, next}
 use Rattle.engine.specs.Models.{Answer, refused, loaded, accepted, amount, time, slip, counts, Call, load, put, run, show, clock, open_slip, carry, withdraw, tally, EngineModel, Paper, fresh, level_of, refusal}
+use Rattle.engine.specs.Outs.{still_out}
 use Rattle.meter.specs.Meters.{MeterModel}
 use Rattle.scale.specs.Scales.{ScaleModel}
 use Rattle.std.specs.List.{AllByRecursion}
@@ -112,11 +113,6 @@ withdrawing tally r = 0
 abbrev pub counted : (Call → Answer → ℕ) → ScaleModel → MeterModel → EngineModel → List Call → ℕ
 counted f s m e [] = 0
 counted f s m e (c ∷ cs) = f c (answer s m e c) + counted f s m (next s m e c) cs
-
--- 1 if a slip is still out
-abbrev pub still_out : Option Paper → ℕ
-still_out None = 0
-still_out (Some x) = 1
 
 -- a call that can be made: what is loaded are bytes
 abbrev pub Possible : Call → Type 0

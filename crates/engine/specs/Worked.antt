@@ -8,7 +8,7 @@ use Rattle.book.specs.Reads.{BookModel}
 use Rattle.flowcheck.specs.Worked.{WorkedBooks, card_of_ones, evened, public_clock, squared, uneven_code, with_clock}
 use Rattle.engine.specs.Calls.{answer, next}
 use Rattle.refusal.specs.declared.check.CheckFault.TheVariants.{Reader}
-use Rattle.refusal.specs.declared.engine.EngineFault.TheVariants.{Check, Hidden, NoBook, NoSuch, NotTheSlip, SameFigure, SlipOut, TooManyOpenings, UnknownLevel}
+use Rattle.refusal.specs.declared.engine.EngineFault.TheVariants.{Check, Hidden, HiddenClock, NoBook, NoSuch, NotTheSlip, SameFigure, SlipOut, TooManyOpenings, UnknownLevel}
 use Rattle.refusal.specs.declared.reader.ReaderFault.TheVariants.{Length}
 use Rattle.refusal.specs.Engines.{engine, engine_refusal}
 use Rattle.engine.specs.Models.{Answer, refused, loaded, accepted, amount, time, slip, counts, Call, load, put, run, show, clock, open_slip, carry, withdraw, tally, EngineModel, Paper, fresh, ask_openings}
@@ -92,8 +92,8 @@ pub record WorkedExamples : Type 0 where
   -- without the wait it takes 2 or 4, which a private clock may tell level 1, and does not tell level 0
   pub uneven_of_0 : answers card_of_ones (timed uneven_private (pos 0) 1) ≡ taking 2
   pub uneven_of_7 : answers card_of_ones (timed uneven_private (pos 7) 1) ≡ taking 4
-  pub uneven_hidden : answers card_of_ones (timed uneven_private (pos 7) 0) ≡ loaded 1 ∷ accepted ∷ accepted ∷ refused (Hidden 32) ∷ []
-  pub hidden_clock : engine_refusal (Hidden 32) ≡ engine 15 32
+  pub uneven_hidden : answers card_of_ones (timed uneven_private (pos 7) 0) ≡ loaded 1 ∷ accepted ∷ accepted ∷ refused HiddenClock ∷ []
+  pub hidden_clock : engine_refusal HiddenClock ≡ engine 15 32
   -- under the digit meter a square takes the longer the more one bits S has: three in 7, one in 8
   pub squared_of_7 : answers digit (timed squared_private (pos 7) 1) ≡ taking 7
   pub squared_of_8 : answers digit (timed squared_private (pos 8) 1) ≡ taking 5

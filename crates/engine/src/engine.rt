@@ -1,8 +1,8 @@
 // The engine's own record; its calls are beside it.
 ghost use Rattle.std.specs.Prelude.{◌≡◌, ◌+◌, ◌≤◌};
-ghost use Rattle.engine.specs.Outs.{out_count};
+ghost use Rattle.engine.specs.Outs.{still_out};
 
-use crate::slip::Numbers;
+use crate::slip::{Numbers, Tally};
 use machine::program::Program;
 use steps::state::State;
 
@@ -16,10 +16,8 @@ pub struct Engine<S, M> {
     state: State,
     // what stands on the slip that is out
     out: Option<Numbers>,
-    openings: u32,
-    carries: u32,
-    withdrawals: u32,
-    ghost few: { openings ≤ 65535 },
+    tally: Tally,
+    ghost few: { tally.openings ≤ 65535 },
     // Every opening is carried, withdrawn or still out.
-    ghost sums: { openings ≡ carries + withdrawals + out_count out },
+    ghost sums: { tally.openings ≡ tally.carries + tally.withdrawals + still_out out },
 }

@@ -1,6 +1,5 @@
 -- The check's law: it accepts exactly what can be derived, and a refusal names the first rule that is broken.
 use Rattle.std.proofs.Common.{◌≡◌, ℕ, ◌<◌, ◌≤◌, ◌⊎◌, [], ◌∷◌, length, Some, None, Option, sym, ap, ◌∙◌, subst, inl, inr, arith}
-use Rattle.book.proofs.Outcomes.{none_some, some_same}
 use Rattle.book.proofs.Parses.{events_whole, all_formed}
 use Rattle.book.specs.Encodings.{WellFormed}
 use Rattle.book.specs.Reads.{BookModel}
@@ -32,9 +31,9 @@ own_place B f t =
 module _ (U W : ℕ → ℕ → Type 0) where
   -- the fault is of the one or of the other, whichever answered it
   either_names : (u w : Option CheckFault) (f : CheckFault) → Named U 0 u → Named W 0 w → or_else u w ≡ Some f → U (check_refusal f).number (check_refusal f).place ⊎ W (check_refusal f).number (check_refusal f).place
-  either_names None None f s t e = absurd (none_some f e)
-  either_names None (Some h) f s t e = subst (λ k. U (check_refusal k).number (check_refusal k).place ⊎ W (check_refusal k).number (check_refusal k).place) (some_same h f e) (inr (own_place W h t))
-  either_names (Some h) w f s t e = subst (λ k. U (check_refusal k).number (check_refusal k).place ⊎ W (check_refusal k).number (check_refusal k).place) (some_same h f e) (inl (own_place U h s))
+  either_names None None f s t e = absurd (cc)
+  either_names None (Some h) f s t e = let same : h ≡ f = cc in subst (λ k. U (check_refusal k).number (check_refusal k).place ⊎ W (check_refusal k).number (check_refusal k).place) same (inr (own_place W h t))
+  either_names (Some h) w f s t e = let same : h ≡ f = cc in subst (λ k. U (check_refusal k).number (check_refusal k).place ⊎ W (check_refusal k).number (check_refusal k).place) same (inl (own_place U h s))
 
   module _ (seven : (n p : ℕ) → U n p → n ≡ 7) (above : (n p : ℕ) → W n p → 7 < n) where
     -- the first of the levels' comes before every other
@@ -57,9 +56,9 @@ module _ (U W : ℕ → ℕ → Type 0) where
 
     -- By cases on which of the two answered it.
     either_first : (u w : Option CheckFault) (f : CheckFault) → Named U 0 u → Named W 0 w → or_else u w ≡ Some f → (n p : ℕ) → U n p ⊎ W n p → NoLater (check_refusal f).number (check_refusal f).place n p
-    either_first None None f s t e n p r = absurd (none_some f e)
-    either_first None (Some h) f s t e n p r = subst (λ k. NoLater (check_refusal k).number (check_refusal k).place n p) (some_same h f e) (first_walked h s t n p r)
-    either_first (Some h) w f s t e n p r = subst (λ k. NoLater (check_refusal k).number (check_refusal k).place n p) (some_same h f e) (first_level h s n p r)
+    either_first None None f s t e n p r = absurd (cc)
+    either_first None (Some h) f s t e n p r = let same : h ≡ f = cc in subst (λ k. NoLater (check_refusal k).number (check_refusal k).place n p) same (first_walked h s t n p r)
+    either_first (Some h) w f s t e n p r = let same : h ≡ f = cc in subst (λ k. NoLater (check_refusal k).number (check_refusal k).place n p) same (first_level h s n p r)
 
 module _ (s : ScaleModel) (m : MeterModel) (b : BookModel) where
   -- the events of a well-formed book are its program

@@ -28,6 +28,11 @@ abbrev pub Named : (ℕ → ℕ → Type 0) → ℕ → Option CheckFault → Ty
 Named B p None = (n q : ℕ) → B n q → ⊥
 Named B p (Some f) = First B p f
 
+-- where B has none the answer is none
+pub named_none : (B : ℕ → ℕ → Type 0) (p : ℕ) (x : Option CheckFault) → ((n q : ℕ) → B n q → ⊥) → Named B p x → x ≡ None
+named_none B p None none t = refl
+named_none B p (Some f) none t = absurd (none (check_refusal f).number t.further t.breaks)
+
 -- the rules in B at the first place, those in C behind it
 abbrev pub After : (ℕ → Type 0) → (ℕ → ℕ → Type 0) → ℕ → ℕ → Type 0
 After B C n zero = B n

@@ -8,6 +8,7 @@ pub mod Parts
 pub mod PartTolls
 pub mod Places
 pub mod Quiet
+pub mod Room
 pub mod Rules
 pub mod Tolling
 pub mod Walking

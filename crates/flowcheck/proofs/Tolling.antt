@@ -1,17 +1,19 @@
 -- The toll of a stretch, taken one instruction after the other, is the toll of its tree, as long as that has 64 bits;
 -- and the toll of a light stretch has far fewer.
-use Rattle.std.proofs.Common.{◌≡◌, ℕ, suc, ◌+◌, ◌*◌, ◌<◌, ◌≤◌, max, eqb, ltb, List, [], ◌∷◌, ◌++◌, length, pos, refl, ap, ◌∙◌, subst, ⊎_elim, mul_assoc, mul-le-mul, mul-le-mul_left, mul-one, mul-add, mul_left_comm, arith}
+use Rattle.std.proofs.Common.{◌≡◌, ℕ, suc, ◌+◌, ◌*◌, ◌<◌, ◌≤◌, max, eqb, List, [], ◌∷◌, ◌++◌, length, pos, refl, ap, ◌∙◌, subst, ⊎_elim, mul_assoc, mul-le-mul, mul-le-mul_left, mul-one, mul-add, mul_left_comm, arith}
 use Rattle.book.proofs.Factors.{weight_times}
+use Rattle.book.proofs.Parses.{instr}
 use Rattle.book.specs.Codes.{code_of}
 use Rattle.book.specs.declared.instruction.Instruction.{Instruction}
 use Rattle.book.specs.declared.instruction.Instruction.TheVariants.{Number, Figure, Clock, Operate, Store, If, Repeat, Else, End}
 use Rattle.book.specs.Forms.{Formed, ends, number, figure, clock, operate, store, wait, one_part, two_parts, turns}
-use Rattle.book.specs.Trees.{Code, flat, weight}
+use Rattle.book.specs.Trees.{Closer, Code, ending, elsing, stopping, flat, weight}
+use Rattle.flowcheck.proofs.Room.{push}
 use Rattle.flowcheck.specs.Tolls.{base, price, toll, fit, turns_of, tolled}
 use Rattle.meter.specs.Meters.{MeterModel, Lawful}
 use Rattle.stack.specs.Stacks.{pushed}
 use Rattle.std.proofs.lemmas.List.{append_assoc}
-use Rattle.std.proofs.lemmas.Bool.{cases_lt, cond-true, cond-false, lt-ltb, ne_eqb}
+use Rattle.std.proofs.lemmas.Bool.{cases_lt, cond-false, ne_eqb}
 
 -- a factor that is cut to 64 bits gives the same product, cut to 64 bits
 fit_times : (K x : ℕ) → fit (fit K * x) ≡ fit (K * x)
@@ -38,10 +40,6 @@ more T K x k e =
     let same : fit (k * x) ≡ fit (K * x) = ap (λ y. fit (y * x)) e ∙ fit_times K x in
     omega arith
 
--- a block is opened where fewer than eight are open
-push : (k : ℕ) (ks : List ℕ) (d : ℕ) → length ks + suc d ≤ 8 → pushed k ks ≡ k ∷ ks
-push k ks d e = cond-true (ltb (length ks) 8) (k ∷ ks) ks (lt-ltb (length ks) 8 (omega arith))
-
 -- what each instruction does to a toll, and what each stretch does, for one meter
 module _ (m : MeterModel) where
   -- the same tolls from sums that are the same
@@ -56,7 +54,7 @@ module _ (m : MeterModel) where
   -- the start of a block, of x ticks: its factor goes on top
   opened : (T K x d : ℕ) (ks : List ℕ) (k : ℕ) (is is' : List Instruction) → length ks + suc d ≤ 8 → turns_of ks ≡ fit K → is ≡ is' → tolled m (fit (fit T + fit (turns_of ks * x))) (pushed k ks) is ≡ tolled m (fit (T + K * x)) (k ∷ ks) is'
   opened T K x d ks k is is' e f g =
-      ap (λ xs. tolled m (fit (fit T + fit (turns_of ks * x))) xs is) (push k ks d e) ∙ (λ i. tolled m (more T K x (turns_of ks) f i) (k ∷ ks) (g i))
+      ap (λ xs. tolled m (fit (fit T + fit (turns_of ks * x))) xs is) (push k ks (omega arith)) ∙ (λ i. tolled m (more T K x (turns_of ks) f i) (k ∷ ks) (g i))
 
   -- the end of a block takes no ticks, and takes the block's factor off
   ended : (T k : ℕ) (ks : List ℕ) (is : List Instruction) → tolled m (fit T) (k ∷ ks) (End ∷ is) ≡ tolled m (fit T) ks is
@@ -68,7 +66,7 @@ module _ (m : MeterModel) where
   elsed : (T d k : ℕ) (ks : List ℕ) (is : List Instruction) → length ks + suc d ≤ 8 → tolled m (fit T) (k ∷ ks) (Else ∷ is) ≡ tolled m (fit T) (0 ∷ ks) is
   elsed T d k ks is e =
       let none : fit (fit T + fit (k * 0)) ≡ fit T = omega arith in
-      cond-false (eqb (length (k ∷ ks)) 0) (fit T) (tolled m (fit (fit T + fit (k * 0))) (pushed 0 ks) is) (ne_eqb (length (k ∷ ks)) 0 (λ z. omega arith)) ∙ (λ i. tolled m (none i) (push 0 ks d e i) is)
+      cond-false (eqb (length (k ∷ ks)) 0) (fit T) (tolled m (fit (fit T + fit (k * 0))) (pushed 0 ks) is) (ne_eqb (length (k ∷ ks)) 0 (λ z. omega arith)) ∙ (λ i. tolled m (none i) (push 0 ks (omega arith) i) is)
 
   -- By induction on how the stretch is formed. A plain instruction adds its ticks; an if or a repeat opens a block, its
   -- parts go by induction, a first part under the factor outside, a second part under 0, the inside of a repeat under the
@@ -119,16 +117,17 @@ module _ (m : MeterModel) where
       ∙ toll_flat r S K ks is e k
       ∙ same (S + K * w) (T + K * (n * (x + u) + w)) ks is (omega (arith, mul-add K (n * (x + u)) w, ap (λ y. K * y) (mul-add n x u), mul-add K (n * x) (n * u), mul_assoc K n u))
 
-  -- the toll of a stretch up to its end, and up to its else
-  pub tolled_end : {nv d h : ℕ} {f : Code} → Formed nv d h f → d ≤ 8 → (r : List Instruction) → tolled m 0 [] (flat f ++ (End ∷ r)) ≡ fit (toll m f)
-  tolled_end {f} q l r =
-      let sum : 0 + 1 * toll m f ≡ toll m f = omega arith in
-      toll_flat q 0 1 [] (End ∷ r) (omega arith) refl ∙ ap fit sum
+  -- what closes a stretch takes no ticks
+  closer : (t : ℕ) (k : Closer) (is : List Instruction) → tolled m t [] (instr k ∷ is) ≡ t
+  closer t ending is = refl
+  closer t elsing is = refl
+  closer t stopping is = refl
 
-  pub tolled_else : {nv d h : ℕ} {f : Code} → Formed nv d h f → d ≤ 8 → (r : List Instruction) → tolled m 0 [] (flat f ++ (Else ∷ r)) ≡ fit (toll m f)
-  tolled_else {f} q l r =
+  -- the toll of a stretch up to what closes it
+  pub tolled_closed : {nv d h : ℕ} {f : Code} → Formed nv d h f → d ≤ 8 → (k : Closer) (is : List Instruction) → tolled m 0 [] (flat f ++ (instr k ∷ is)) ≡ fit (toll m f)
+  tolled_closed {f} q l k is =
       let sum : 0 + 1 * toll m f ≡ toll m f = omega arith in
-      toll_flat q 0 1 [] (Else ∷ r) (omega arith) refl ∙ ap fit sum
+      toll_flat q 0 1 [] (instr k ∷ is) (omega arith) refl ∙ closer (fit (0 + 1 * toll m f)) k is ∙ ap fit sum
 
 -- one instruction is charged at most 1000 ticks
 base_bound : (m : MeterModel) → Lawful m → (i : Instruction) → base m i ≤ 1000

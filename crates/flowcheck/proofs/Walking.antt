@@ -1,5 +1,5 @@
 -- On the instructions of a formed stretch the walk is an audit of the tree: where no rule is broken the stretch flows.
-use Rattle.std.proofs.Common.{◌≡◌, ℕ, suc, ◌+◌, ◌<◌, ◌≤◌, ltb, List, [], ◌∷◌, ◌++◌, length, refl, ap, ◌∙◌, subst, subst₂, arith}
+use Rattle.std.proofs.Common.{◌≡◌, ℕ, suc, ◌+◌, ◌≤◌, List, [], ◌∷◌, ◌++◌, length, refl, ap, ◌∙◌, subst, subst₂, inl, inr, arith}
 use Rattle.book.proofs.Parses.{parse_flat}
 use Rattle.book.specs.declared.instruction.Instruction.{Instruction}
 use Rattle.book.specs.declared.instruction.Instruction.TheVariants.{Number, Figure, Clock, Operate, Store, If, Repeat, Else, End}
@@ -7,17 +7,12 @@ use Rattle.book.specs.Forms.{Formed}
 use Rattle.book.specs.Forms.{ends as formed-ends, number as formed-number, figure as formed-figure, clock as formed-clock, operate as formed-operate, store as formed-store, wait as formed-wait, one_part, two_parts, turns as formed-turns}
 use Rattle.book.specs.Trees.{Code, done, flat, ending, elsing, closed, here, parse}
 use Rattle.flowcheck.proofs.Quiet.{Quiet}
-use Rattle.flowcheck.proofs.Rules.{charge_paced, parts_even}
+use Rattle.flowcheck.proofs.Room.{push}
+use Rattle.flowcheck.proofs.Rules.{holds, charge_paced, parts_even}
 use Rattle.flowcheck.specs.Flows.{Flows, ends, number, figure, clock, operate, store, wait, parts, turns}
 use Rattle.flowcheck.specs.Tolls.{second_ahead}
 use Rattle.flowcheck.specs.Walks.{Setting, context, figure_level, stake}
-use Rattle.stack.specs.Stacks.{pushed}
 use Rattle.std.proofs.lemmas.List.{append_assoc}
-use Rattle.std.proofs.lemmas.Bool.{cond-true, lt-ltb, not-false}
-
--- one more item where there is room
-pub push : (x : ℕ) (xs : List ℕ) → length xs < 8 → pushed x xs ≡ x ∷ xs
-push x xs h = cond-true (ltb (length xs) 8) (x ∷ xs) xs (lt-ltb (length xs) 8 h)
 
 -- what stands behind a block with one part, and with two
 pub behind_one : (fs cs is : List Instruction) → (fs ++ (End ∷ cs)) ++ is ≡ fs ++ (End ∷ (cs ++ is))
@@ -42,60 +37,60 @@ pub quiet_flows : (g : Setting) {nv d h : ℕ} {c : Code} → Formed nv d h c �
 quiet_flows g formed-ends cs [] is e l r q = (ends, q)
 quiet_flows g formed-ends cs (a ∷ ls) is e l r q = absurd (omega arith)
 quiet_flows g (formed-number {z} {c} t f) cs ls is e l r q =
-    let on : Quiet g cs (g.scale.floor ∷ ls) (flat c ++ is) = subst (λ x. Quiet g cs x (flat c ++ is)) (push g.scale.floor ls (omega arith)) q.1 in
+    let on : Quiet g cs (g.scale.floor ∷ ls) (flat c ++ is) = subst (λ x. Quiet g cs x (flat c ++ is)) (push g.scale.floor ls (omega arith)) (λ n p. q n (suc p)) in
     let w = quiet_flows g f cs (g.scale.floor ∷ ls) is e (ap suc l) (omega arith) on in
-    (number (charge_paced g cs ls (Number z) q.0.charge) w.0, w.1)
+    (number (charge_paced g cs ls (Number z) (λ b. q 8 0 (inl (refl, b)))) w.0, w.1)
 quiet_flows g (formed-figure {v} {c} b t f) cs ls is e l r q =
-    let on : Quiet g cs (figure_level g v ∷ ls) (flat c ++ is) = subst (λ x. Quiet g cs x (flat c ++ is)) (push (figure_level g v) ls (omega arith)) q.1 in
+    let on : Quiet g cs (figure_level g v ∷ ls) (flat c ++ is) = subst (λ x. Quiet g cs x (flat c ++ is)) (push (figure_level g v) ls (omega arith)) (λ n p. q n (suc p)) in
     let w = quiet_flows g f cs (figure_level g v ∷ ls) is e (ap suc l) (omega arith) on in
-    (figure (charge_paced g cs ls (Figure v) q.0.charge) w.0, w.1)
+    (figure (charge_paced g cs ls (Figure v) (λ b. q 8 0 (inl (refl, b)))) w.0, w.1)
 quiet_flows g (formed-clock {c} t f) cs ls is e l r q =
-    let on : Quiet g cs (g.clock ∷ ls) (flat c ++ is) = subst (λ x. Quiet g cs x (flat c ++ is)) (push g.clock ls (omega arith)) q.1 in
+    let on : Quiet g cs (g.clock ∷ ls) (flat c ++ is) = subst (λ x. Quiet g cs x (flat c ++ is)) (push g.clock ls (omega arith)) (λ n p. q n (suc p)) in
     let w = quiet_flows g f cs (g.clock ∷ ls) is e (ap suc l) (omega arith) on in
-    (clock (charge_paced g cs ls Clock q.0.charge) w.0, w.1)
+    (clock (charge_paced g cs ls Clock (λ b. q 8 0 (inl (refl, b)))) w.0, w.1)
 quiet_flows g (formed-operate f) cs [] is e l r q = absurd (omega arith)
 quiet_flows g (formed-operate f) cs (b ∷ []) is e l r q = absurd (omega arith)
 quiet_flows g (formed-operate {o} {c} f) cs (b ∷ a ∷ ls) is e l r q =
     let k = g.scale.join a b in
-    let on : Quiet g cs (k ∷ ls) (flat c ++ is) = subst (λ x. Quiet g cs x (flat c ++ is)) (push k ls (omega arith)) q.1 in
+    let on : Quiet g cs (k ∷ ls) (flat c ++ is) = subst (λ x. Quiet g cs x (flat c ++ is)) (push k ls (omega arith)) (λ n p. q n (suc p)) in
     let w = quiet_flows g f cs (k ∷ ls) is e (omega arith) (omega arith) on in
-    (operate (charge_paced g cs (b ∷ a ∷ ls) (Operate o) q.0.charge) w.0, w.1)
+    (operate (charge_paced g cs (b ∷ a ∷ ls) (Operate o) (λ b. q 8 0 (inl (refl, b)))) w.0, w.1)
 quiet_flows g (formed-store b f) cs [] is e l r q = absurd (omega arith)
 quiet_flows g (formed-store {v} b f) cs (a ∷ []) is e l r q =
-    let w = quiet_flows g f cs [] is e refl (omega arith) q.1 in
-    let direct = not-false (g.scale.below a (figure_level g v)) q.0.own.0 in
-    let implicit = not-false (g.scale.below (context g cs) (figure_level g v)) q.0.own.1 in
-    (store (charge_paced g cs (a ∷ []) (Store v) q.0.charge) direct implicit w.0, w.1)
+    let w = quiet_flows g f cs [] is e refl (omega arith) (λ n p. q n (suc p)) in
+    let direct = holds (g.scale.below a (figure_level g v)) (λ b. q 9 0 (inr (inl (refl, b)))) in
+    let implicit = holds (g.scale.below (context g cs) (figure_level g v)) (λ b. q 10 0 (inr (inr (refl, b)))) in
+    (store (charge_paced g cs (a ∷ []) (Store v) (λ b. q 8 0 (inl (refl, b)))) direct implicit w.0, w.1)
 quiet_flows g (formed-store b f) cs (a ∷ k ∷ ls) is e l r q = absurd (omega arith)
 quiet_flows g (formed-wait b f) cs [] is e l r q =
-    let w = quiet_flows g f cs [] is e refl (omega arith) q.1 in
+    let w = quiet_flows g f cs [] is e refl (omega arith) (λ n p. q n (suc p)) in
     (wait w.0, w.1)
 quiet_flows g (formed-wait b f) cs (a ∷ ls) is e l r q = absurd (omega arith)
 quiet_flows g (one_part p t) cs [] is e l r q = absurd (omega arith)
 quiet_flows g (one_part {f} {c} p t) cs (a ∷ []) is e l r q =
     let k = stake g cs (a ∷ []) If in
     let sees = one_ahead p (flat c) is in
-    let even = parts_even g cs (a ∷ []) ((flat f ++ (End ∷ flat c)) ++ is) f done (ap here sees) (ap second_ahead sees) q.0.own in
-    let inside : Quiet g (k ∷ cs) [] (flat f ++ (End ∷ (flat c ++ is))) = subst₂ (λ x y. Quiet g x [] y) (push k cs (omega arith)) (behind_one (flat f) (flat c) is) q.1 in
+    let even = parts_even g cs (a ∷ []) ((flat f ++ (End ∷ flat c)) ++ is) f done (ap here sees) (ap second_ahead sees) (λ b. q 11 0 (inr (refl, b))) in
+    let inside : Quiet g (k ∷ cs) [] (flat f ++ (End ∷ (flat c ++ is))) = subst₂ (λ x y. Quiet g x [] y) (push k cs (omega arith)) (behind_one (flat f) (flat c) is) (λ n p. q n (suc p)) in
     let u = quiet_flows g p (k ∷ cs) [] (End ∷ (flat c ++ is)) (omega arith) refl (omega arith) inside in
-    let w = quiet_flows g t cs [] is e refl (omega arith) u.1.1 in
-    (parts (charge_paced g cs (a ∷ []) If q.0.charge) even u.0 ends w.0, w.1)
+    let w = quiet_flows g t cs [] is e refl (omega arith) (λ n p. u.1 n (suc p)) in
+    (parts (charge_paced g cs (a ∷ []) If (λ b. q 8 0 (inl (refl, b)))) even u.0 ends w.0, w.1)
 quiet_flows g (one_part p t) cs (a ∷ k ∷ ls) is e l r q = absurd (omega arith)
 quiet_flows g (two_parts p t u) cs [] is e l r q = absurd (omega arith)
 quiet_flows g (two_parts {f} {s} {c} p t u) cs (a ∷ []) is e l r q =
     let k = stake g cs (a ∷ []) If in
     let sees = two_ahead p t (flat c) is in
-    let even = parts_even g cs (a ∷ []) ((flat f ++ (Else ∷ (flat s ++ (End ∷ flat c)))) ++ is) f s (ap here sees) (ap second_ahead sees) q.0.own in
-    let inside : Quiet g (k ∷ cs) [] (flat f ++ (Else ∷ (flat s ++ (End ∷ (flat c ++ is))))) = subst₂ (λ x y. Quiet g x [] y) (push k cs (omega arith)) (behind_two (flat f) (flat s) (flat c) is) q.1 in
+    let even = parts_even g cs (a ∷ []) ((flat f ++ (Else ∷ (flat s ++ (End ∷ flat c)))) ++ is) f s (ap here sees) (ap second_ahead sees) (λ b. q 11 0 (inr (refl, b))) in
+    let inside : Quiet g (k ∷ cs) [] (flat f ++ (Else ∷ (flat s ++ (End ∷ (flat c ++ is))))) = subst₂ (λ x y. Quiet g x [] y) (push k cs (omega arith)) (behind_two (flat f) (flat s) (flat c) is) (λ n p. q n (suc p)) in
     let v = quiet_flows g p (k ∷ cs) [] (Else ∷ (flat s ++ (End ∷ (flat c ++ is)))) (omega arith) refl (omega arith) inside in
-    let w = quiet_flows g t (k ∷ cs) [] (End ∷ (flat c ++ is)) (omega arith) refl (omega arith) v.1.1 in
-    let x = quiet_flows g u cs [] is e refl (omega arith) w.1.1 in
-    (parts (charge_paced g cs (a ∷ []) If q.0.charge) even v.0 w.0 x.0, x.1)
+    let w = quiet_flows g t (k ∷ cs) [] (End ∷ (flat c ++ is)) (omega arith) refl (omega arith) (λ n p. v.1 n (suc p)) in
+    let x = quiet_flows g u cs [] is e refl (omega arith) (λ n p. w.1 n (suc p)) in
+    (parts (charge_paced g cs (a ∷ []) If (λ b. q 8 0 (inl (refl, b)))) even v.0 w.0 x.0, x.1)
 quiet_flows g (two_parts p t u) cs (a ∷ k ∷ ls) is e l r q = absurd (omega arith)
 quiet_flows g (formed-turns {n} {f} {c} b p t) cs [] is e l r q =
     let k = context g cs in
-    let inside : Quiet g (k ∷ cs) [] (flat f ++ (End ∷ (flat c ++ is))) = subst₂ (λ x y. Quiet g x [] y) (push k cs (omega arith)) (behind_one (flat f) (flat c) is) q.1 in
+    let inside : Quiet g (k ∷ cs) [] (flat f ++ (End ∷ (flat c ++ is))) = subst₂ (λ x y. Quiet g x [] y) (push k cs (omega arith)) (behind_one (flat f) (flat c) is) (λ n p. q n (suc p)) in
     let u = quiet_flows g p (k ∷ cs) [] (End ∷ (flat c ++ is)) (omega arith) refl (omega arith) inside in
-    let w = quiet_flows g t cs [] is e refl (omega arith) u.1.1 in
-    (turns (charge_paced g cs [] (Repeat n) q.0.charge) u.0 w.0, w.1)
+    let w = quiet_flows g t cs [] is e refl (omega arith) (λ n p. u.1 n (suc p)) in
+    (turns (charge_paced g cs [] (Repeat n) (λ b. q 8 0 (inl (refl, b)))) u.0 w.0, w.1)
 quiet_flows g (formed-turns b p t) cs (a ∷ ls) is e l r q = absurd (omega arith)

@@ -1,17 +1,22 @@
 -- What checking a book, or bytes, answers.
-use Rattle.std.specs.Prelude.{ℕ, ◌+◌, cond, List, [], ◌∷◌, Some, None, Ok, Err, Option, Result}
+use Rattle.std.specs.Prelude.{ℕ, zero, suc, ◌+◌, cond, List, [], ◌∷◌, Some, None, Ok, Err, Option, Result}
 use Rattle.refusal.specs.declared.reader.ReaderFault.{ReaderFault}
 use Rattle.book.specs.Reads.{BookModel, reading}
 use Rattle.refusal.specs.declared.check.CheckFault.{CheckFault}
-use Rattle.refusal.specs.declared.check.CheckFault.TheVariants.{Reader, Level}
+use Rattle.refusal.specs.declared.check.CheckFault.TheVariants.{Reader, ClockLevel, FigureLevel}
 use Rattle.flowcheck.specs.Walks.{Setting, or_else, walk}
 use Rattle.meter.specs.Meters.{MeterModel}
 use Rattle.scale.specs.Scales.{ScaleModel}
 
+-- the fault of a level that the scale does not know: at place 0 the clock's, at 1 + v that of figure v
+abbrev pub level_fault : ℕ → CheckFault
+level_fault zero = ClockLevel
+level_fault (suc v) = FigureLevel v
+
 -- the first level that the scale does not know, from place p on
 abbrev pub unknown : ScaleModel → ℕ → List ℕ → Option CheckFault
 unknown s p [] = None
-unknown s p (l ∷ ls) = cond (s.known l) (unknown s (p + 1) ls) (Some (Level p))
+unknown s p (l ∷ ls) = cond (s.known l) (unknown s (p + 1) ls) (Some (level_fault p))
 
 -- a book under a scale and a meter
 abbrev pub setting : ScaleModel → MeterModel → BookModel → Setting

@@ -2,8 +2,8 @@ pub mod Parts
 pub mod Tolls
 pub mod Verdicts
 pub mod Walks
-pub mod Checked
 pub mod Checks
 pub mod Flows
 pub mod Laws
+pub mod Settings
 pub mod Worked

@@ -1,18 +1,17 @@
 -- Worked books: small books, and the verdict on each under a ladder of two ranks.
 -- Figure 0 is called P and has level 0 (public), figure 1 is called S and has level 1 (private); both start at 0.
-use Rattle.std.specs.Prelude.{◌≡◌, ℕ, List, [], ◌∷◌, ◌++◌, length, replicate, pos, codes}
+use Rattle.std.specs.Prelude.{◌≡◌, ℕ, List, [], ◌∷◌, ◌++◌, length, replicate, pos, codes, Ok, Err, Result}
 use Rattle.book.specs.declared.instruction.Instruction.{Instruction}
 use Rattle.book.specs.declared.instruction.Instruction.TheVariants.{Stop, Number, Figure, Operate, Store, If, Repeat, Wait, Else, End}
 use Rattle.book.specs.declared.instruction.Operation.TheVariants.{Multiply}
 use Rattle.book.specs.Encodings.{encode, two}
 use Rattle.std.specs.List.{flat_map}
 use Rattle.book.specs.Reads.{BookModel}
+use Rattle.refusal.specs.declared.Refusal.{Refusal}
 use Rattle.refusal.specs.Checks.{check}
 use Rattle.refusal.specs.Readers.{reader}
 use Rattle.flowcheck.specs.Verdicts.{verdict_of}
-use Rattle.line.specs.declared.Verdict.{Verdict}
 use Rattle.line.specs.Lines.{line}
-use Rattle.line.specs.declared.Verdict.TheVariants.{Accepted, Refused}
 use Rattle.meter.specs.Cards.{card}
 use Rattle.meter.specs.Digits.{digit}
 use Rattle.meter.specs.Meters.{MeterModel}
@@ -31,7 +30,7 @@ abbrev pub card_of_ones : MeterModel
 card_of_ones = card (replicate 12 1)
 
 -- the verdict on a book's bytes under a meter
-abbrev pub verdict_with : MeterModel → BookModel → Verdict
+abbrev pub verdict_with : MeterModel → BookModel → Result ℕ Refusal
 verdict_with m b = verdict_of (ladder 2) m (encode b)
 
 -- if S is not 0 it becomes 5, which takes 2 ticks that the missing second part does not
@@ -99,7 +98,7 @@ abbrev pub bare : List ℕ → List ℕ → List ℕ
 bare cs zs = two 0 ++ (two (length cs) ++ (two 0 ++ (cs ++ flat_map small zs)))
 
 -- the verdict on bytes under the card of ones
-abbrev pub verdict_on_bytes : List ℕ → Verdict
+abbrev pub verdict_on_bytes : List ℕ → Result ℕ Refusal
 verdict_on_bytes bs = verdict_of (ladder 2) card_of_ones bs
 
 -- two repeats, one in the other, around a wait
@@ -109,52 +108,52 @@ turning n m = Repeat n ∷ Repeat m ∷ Wait 0 ∷ End ∷ End ∷ []
 -- The verdicts on these books.
 pub record WorkedBooks : Type 0 where
   -- a private test with uneven parts is refused at the if
-  pub uneven_refused : verdict_with card_of_ones uneven ≡ Refused (check 11 1)
+  pub uneven_refused : verdict_with card_of_ones uneven ≡ Err (check 11 1)
   -- evened out by a wait it is accepted with its one event, and takes 58 bytes
-  pub evened_accepted : verdict_with card_of_ones evened ≡ Accepted 1
+  pub evened_accepted : verdict_with card_of_ones evened ≡ Ok 1
   pub evened_bytes : length (encode evened) ≡ 58
   -- a private clock may show uneven parts
-  pub private_clock_accepted : verdict_with card_of_ones (with_clock 1 uneven_code) ≡ Accepted 1
+  pub private_clock_accepted : verdict_with card_of_ones (with_clock 1 uneven_code) ≡ Ok 1
   -- a private amount may not be stored in a public figure
-  pub direct_refused : verdict_with card_of_ones direct ≡ Refused (check 9 1)
+  pub direct_refused : verdict_with card_of_ones direct ≡ Err (check 9 1)
   -- a private test may not decide what is stored in a public figure
-  pub implicit_refused : verdict_with card_of_ones implicit ≡ Refused (check 10 3)
+  pub implicit_refused : verdict_with card_of_ones implicit ≡ Err (check 10 3)
   -- a private product is accepted where each multiply takes one tick, and refused where its time depends on the operands
-  pub squared_accepted : verdict_with card_of_ones squared ≡ Accepted 1
-  pub squared_refused : verdict_with digit squared ≡ Refused (check 8 2)
+  pub squared_accepted : verdict_with card_of_ones squared ≡ Ok 1
+  pub squared_refused : verdict_with digit squared ≡ Err (check 8 2)
   -- six zero bytes are a book without figures and events
-  pub nothing_accepted : verdict_of (ladder 2) card_of_ones (replicate 6 0) ≡ Accepted 0
+  pub nothing_accepted : verdict_of (ladder 2) card_of_ones (replicate 6 0) ≡ Ok 0
   -- a public test may have uneven parts, but not inside a private test, even one with equal tolls: the context counts
-  pub public_accepted : verdict_with card_of_ones uneven_on_public ≡ Accepted 1
-  pub inside_refused : verdict_with card_of_ones uneven_inside ≡ Refused (check 11 3)
-  pub inside_accepted : verdict_with card_of_ones evened_inside ≡ Accepted 1
+  pub public_accepted : verdict_with card_of_ones uneven_on_public ≡ Ok 1
+  pub inside_refused : verdict_with card_of_ones uneven_inside ≡ Err (check 11 3)
+  pub inside_accepted : verdict_with card_of_ones evened_inside ≡ Ok 1
   -- parts are compared by their ticks and not by their numbers of instructions
-  pub length_refused : verdict_with card_of_ones same_length ≡ Refused (check 11 1)
-  pub time_accepted : verdict_with card_of_ones same_time ≡ Accepted 1
+  pub length_refused : verdict_with card_of_ones same_length ≡ Err (check 11 1)
+  pub time_accepted : verdict_with card_of_ones same_time ≡ Ok 1
   -- the lines of two of these verdicts
   pub refused_line : line (verdict_with card_of_ones uneven) ≡ codes "refused 11 check 1\n"
   pub accepted_line : line (verdict_with card_of_ones evened) ≡ codes "accepted 1\n"
   -- of two rules that one store breaks the smaller number counts, and an if is asked before what stands inside it
-  pub smaller_first : verdict_with card_of_ones twice_wrong ≡ Refused (check 9 3)
-  pub if_first : verdict_with card_of_ones uneven_store ≡ Refused (check 11 1)
+  pub smaller_first : verdict_with card_of_ones twice_wrong ≡ Err (check 9 3)
+  pub if_first : verdict_with card_of_ones uneven_store ≡ Err (check 11 1)
   -- levels are asked before instructions, the clock's first
-  pub clock_level_first : verdict_with card_of_ones (unknown_levels 2) ≡ Refused (check 7 0)
-  pub figure_level_next : verdict_with card_of_ones (unknown_levels 0) ≡ Refused (check 7 2)
+  pub clock_level_first : verdict_with card_of_ones (unknown_levels 2) ≡ Err (check 7 0)
+  pub figure_level_next : verdict_with card_of_ones (unknown_levels 0) ≡ Err (check 7 2)
   -- too few bytes; then the number of figures, of instructions, and the length that both ask for
-  pub five_bytes : verdict_on_bytes (replicate 5 0) ≡ Refused (reader 1 0)
-  pub figures_first : verdict_on_bytes (two 33 ++ (two 257 ++ two 0)) ≡ Refused (reader 2 0)
-  pub instructions_next : verdict_on_bytes (two 32 ++ (two 257 ++ two 0)) ≡ Refused (reader 2 2)
-  pub length_last : verdict_on_bytes (two 32 ++ (two 256 ++ two 0)) ≡ Refused (reader 1 0)
+  pub five_bytes : verdict_on_bytes (replicate 5 0) ≡ Err (reader 1 0)
+  pub figures_first : verdict_on_bytes (two 33 ++ (two 257 ++ two 0)) ≡ Err (reader 2 0)
+  pub instructions_next : verdict_on_bytes (two 32 ++ (two 257 ++ two 0)) ≡ Err (reader 2 2)
+  pub length_last : verdict_on_bytes (two 32 ++ (two 256 ++ two 0)) ≡ Err (reader 1 0)
   -- on one instruction the argument is asked before the stack, and the stack before the nesting
-  pub argument_first : verdict_on_bytes (bare (10 ∷ []) (0 ∷ [])) ≡ Refused (reader 3 0)
-  pub stack_next : verdict_on_bytes (bare (1 ∷ 14 ∷ 16 ∷ []) (5 ∷ 0 ∷ 0 ∷ [])) ≡ Refused (reader 4 1)
-  pub nesting_last : verdict_on_bytes (bare (14 ∷ 16 ∷ []) (0 ∷ 0 ∷ [])) ≡ Refused (reader 5 0)
+  pub argument_first : verdict_on_bytes (bare (10 ∷ []) (0 ∷ [])) ≡ Err (reader 3 0)
+  pub stack_next : verdict_on_bytes (bare (1 ∷ 14 ∷ 16 ∷ []) (5 ∷ 0 ∷ 0 ∷ [])) ≡ Err (reader 4 1)
+  pub nesting_last : verdict_on_bytes (bare (14 ∷ 16 ∷ []) (0 ∷ 0 ∷ [])) ≡ Err (reader 5 0)
   -- an earlier instruction counts before a later one, whatever their numbers
-  pub earlier_counts : verdict_on_bytes (bare (15 ∷ 17 ∷ []) (0 ∷ 0 ∷ [])) ≡ Refused (reader 5 0)
+  pub earlier_counts : verdict_on_bytes (bare (15 ∷ 17 ∷ []) (0 ∷ 0 ∷ [])) ≡ Err (reader 5 0)
   -- the last stop is asked before the weights, and a weight is named at its event's first instruction
-  pub stop_first : verdict_with card_of_ones (public_clock (turning 1000 1000)) ≡ Refused (reader 5 5)
-  pub heavy_event : verdict_with card_of_ones (public_clock (Stop ∷ (turning 1000 1000 ++ (Stop ∷ [])))) ≡ Refused (reader 6 1)
+  pub stop_first : verdict_with card_of_ones (public_clock (turning 1000 1000)) ≡ Err (reader 5 5)
+  pub heavy_event : verdict_with card_of_ones (public_clock (Stop ∷ (turning 1000 1000 ++ (Stop ∷ [])))) ≡ Err (reader 6 1)
   -- 98,002 is light enough and 100,002 is not; no turns weigh as one
-  pub light_enough : verdict_with card_of_ones (public_clock (turning 1000 48 ++ (Stop ∷ []))) ≡ Accepted 1
-  pub too_heavy : verdict_with card_of_ones (public_clock (turning 1000 49 ++ (Stop ∷ []))) ≡ Refused (reader 6 0)
-  pub no_turns_weigh : verdict_with card_of_ones (public_clock (Repeat 0 ∷ (turning 1000 1000 ++ (End ∷ Stop ∷ [])))) ≡ Refused (reader 6 0)
+  pub light_enough : verdict_with card_of_ones (public_clock (turning 1000 48 ++ (Stop ∷ []))) ≡ Ok 1
+  pub too_heavy : verdict_with card_of_ones (public_clock (turning 1000 49 ++ (Stop ∷ []))) ≡ Err (reader 6 0)
+  pub no_turns_weigh : verdict_with card_of_ones (public_clock (Repeat 0 ∷ (turning 1000 1000 ++ (End ∷ Stop ∷ [])))) ≡ Err (reader 6 0)

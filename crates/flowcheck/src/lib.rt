@@ -3,6 +3,7 @@
 #![tactic(auto)]
 
 pub mod checker;
+mod grounds;
 mod tolls;
 pub mod verdict;
 mod walk;

@@ -1,5 +1,5 @@
 // Tolls: the ticks of a stretch of code at operands 0, worked out without running it.
-ghost use Rattle.std.specs.Prelude.{◌≡◌, ◌+◌, ◌*◌, ◌≤◌, [], length, drop};
+ghost use Rattle.std.specs.Prelude.{◌≡◌, ◌+◌, ◌*◌, []};
 ghost use Rattle.flowcheck.specs.Tolls.{added as added_by, closes_all, fit, tolled, turns_after, turns_of};
 ghost use Rattle.stack.specs.Stacks.{held};
 
@@ -10,19 +10,14 @@ use stack::Stack;
 
 // What an instruction adds to a toll.
 fn added<M: Meter>(meter: &M, instruction: Instruction) -> u64
-    ensures { result ≡ added_by (M.Meter.meaning meter.now) instruction }
+    ensures { result ≡ added_by (M.meaning meter.now) instruction }
 {
     let charge = u64::from(meter.charge(code_of(instruction), 0, 0));
     match instruction {
-        Instruction::Number(_)
-        | Instruction::Figure(_)
-        | Instruction::Clock
-        | Instruction::Operate(_)
-        | Instruction::Store(_)
-        | Instruction::If => charge,
         Instruction::Repeat(count) => u64::from(count) * charge,
         Instruction::Wait(ticks) => u64::from(ticks),
         Instruction::Else | Instruction::End | Instruction::Stop => 0,
+        _ => charge,
     }
 }
 
@@ -51,14 +46,7 @@ impl Toll {
         match instruction {
             Instruction::Stop => true,
             Instruction::Else | Instruction::End => self.turns.height() == 0,
-            Instruction::Number(_)
-            | Instruction::Figure(_)
-            | Instruction::Clock
-            | Instruction::Operate(_)
-            | Instruction::Store(_)
-            | Instruction::If
-            | Instruction::Repeat(_)
-            | Instruction::Wait(_) => false,
+            _ => false,
         }
     }
 
@@ -83,28 +71,21 @@ impl Toll {
             Instruction::End => {
                 let _ = self.turns.pop();
             }
-            Instruction::Number(_)
-            | Instruction::Figure(_)
-            | Instruction::Clock
-            | Instruction::Operate(_)
-            | Instruction::Store(_)
-            | Instruction::Wait(_)
-            | Instruction::Stop => {}
+            _ => {}
         }
     }
 }
 
-// The toll of the stretch that starts at a place.
-pub(crate) fn toll_from<M: Meter>(meter: &M, code: &[Instruction], from: usize) -> u64
-    requires { from ≤ length code.now }
-    ensures { result ≡ tolled (M.Meter.meaning meter.now) 0 [] (drop from code.now) }
+// The toll of the stretch that these instructions begin with.
+pub(crate) fn toll_of<M: Meter>(meter: &M, code: &[Instruction]) -> u64
+    ensures { result ≡ tolled (M.meaning meter.now) 0 [] code.now }
 {
     let mut toll = Toll::new();
-    for place in from..code.len() {
-        if toll.closes(code[place]) {
+    for instruction in code {
+        if toll.closes(*instruction) {
             return toll.ticks;
         }
-        toll.add(code[place], added(meter, code[place]));
+        toll.add(*instruction, added(meter, *instruction));
     }
     toll.ticks
 }

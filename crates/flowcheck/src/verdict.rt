@@ -8,19 +8,11 @@ use line::Verdict;
 use meter::meter::Meter;
 use scale::scale::Scale;
 
-// Changes nothing: a call brings the verdicts on the worked books into its caller's proof.
-fn worked_books()
-    ensures { WorkedBooks }
-{}
-
 // Accepted with the number of events, or refused.
+#[tactic(auto, using(crate::proofs::Worked::worked_books))]
 pub fn judge<S: Scale, M: Meter>(scale: &S, meter: &M, bytes: &[u8]) -> Verdict
-    ensures verdict { result ≡ verdict_of (S.Scale.meaning scale.now) (M.Meter.meaning meter.now) bytes.now }
+    ensures verdict { result ≡ verdict_of (S.meaning scale.now) (M.meaning meter.now) bytes.now }
     ensures worked { WorkedBooks }
 {
-    worked_books();
-    match check(scale, meter, bytes) {
-        Ok(book) => Verdict::Accepted(book.events()),
-        Err(fault) => Verdict::Refused(fault.refusal()),
-    }
+    Ok(check(scale, meter, bytes)?.events())
 }

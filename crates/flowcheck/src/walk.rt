@@ -1,25 +1,27 @@
 // What the check keeps while it goes through the instructions: the contexts of the open blocks and
 // the levels of the amounts on the stack.
 ghost use Rattle.reader.specs.Books.{said};
-ghost use Rattle.flowcheck.specs.Checks.{setting};
-ghost use Rattle.flowcheck.specs.Walks.{breaks_charge, breaks_direct, breaks_implicit, broken, contexts_after, figure_level, levels_after, on_clock, or_else, stake as stake_of};
+ghost use Rattle.flowcheck.specs.Settings.{setting_of};
+ghost use Rattle.flowcheck.specs.Walks.{breaks_charge, breaks_direct, breaks_implicit, broken, contexts_after, fault_at, levels_after, or_else, stake as stake_of};
 ghost use Rattle.refusal.specs.declared.check.CheckFault.TheVariants.{Direct, Implicit};
-ghost use Rattle.book.specs.declared.instruction.Instruction.TheVariants.{If};
 ghost use Rattle.stack.specs.Stacks.{held};
-ghost use Rattle.std.specs.Prelude.{◌≡◌, []};
+ghost use Rattle.std.specs.Prelude.{◌≡◌, ◌+◌, [], drop, slice_get};
+ghost use Rattle.std.specs.Result.{result_err};
 
+use crate::grounds::Grounds;
 use book::codes::code_of;
 use book::instruction::Instruction;
 use meter::meter::Meter;
-use reader::rulebook::Book;
 use refusal::check::CheckFault;
 use scale::scale::Scale;
 use stack::Stack;
 
+// The top of each stack is the innermost block's context and the last amount's level.
+// The grounds are an argument of each question and no part of this: held here, `pass` would have to say that they stay.
 #[derive(Drop)]
 pub(crate) struct Walk {
-    pub(crate) contexts: Stack<u16>,
-    pub(crate) levels: Stack<u16>,
+    contexts: Stack<u16>,
+    levels: Stack<u16>,
 }
 
 impl Walk {
@@ -36,125 +38,116 @@ impl Walk {
     // The context joined with the levels of the amounts that an instruction takes off the stack.
     fn stake<S: Scale, M: Meter>(
         &self,
-        scale: &S,
-        meter: &M,
-        book: &Book,
+        grounds: &Grounds<'_, S, M>,
         instruction: Instruction,
     ) -> u16
-        ensures { result ≡ stake_of (setting (S.Scale.meaning scale.now) (M.Meter.meaning meter.now) (said book.now)) (held self.now.contexts) (held self.now.levels) instruction }
+        ensures { result ≡ stake_of (setting_of S.meaning M.meaning grounds.now) (held self.now.contexts) (held self.now.levels) instruction }
     {
-        let floor = scale.floor();
-        let context = self.contexts.top().unwrap_or(floor);
-        let top = self.levels.top().unwrap_or(floor);
+        let scale = grounds.scale;
+        let context = grounds.top(&self.contexts);
+        let top = grounds.top(&self.levels);
         match instruction {
             Instruction::Operate(_) => {
-                let second = self.levels.second().unwrap_or(floor);
+                let second = self.levels.second().unwrap_or(scale.floor());
                 scale.join(scale.join(context, second), top)
             }
             Instruction::Store(_) | Instruction::If => scale.join(context, top),
-            Instruction::Number(_)
-            | Instruction::Figure(_)
-            | Instruction::Clock
-            | Instruction::Repeat(_)
-            | Instruction::Wait(_)
-            | Instruction::Else
-            | Instruction::End
-            | Instruction::Stop => context,
+            _ => context,
         }
     }
 
     // Whether the charge of an instruction tells the clock what it may not show.
-    pub(crate) fn breaks_charge<S: Scale, M: Meter>(
+    fn breaks_charge<S: Scale, M: Meter>(
         &self,
-        scale: &S,
-        meter: &M,
-        book: &Book,
+        grounds: &Grounds<'_, S, M>,
         instruction: Instruction,
     ) -> bool
-        ensures { result ≡ breaks_charge (setting (S.Scale.meaning scale.now) (M.Meter.meaning meter.now) (said book.now)) (held self.now.contexts) (held self.now.levels) instruction }
+        ensures { result ≡ breaks_charge (setting_of S.meaning M.meaning grounds.now) (held self.now.contexts) (held self.now.levels) instruction }
     {
-        if meter.steady(code_of(instruction)) {
-            return false;
-        }
-        let stake = self.stake(scale, meter, book, instruction);
-        !scale.at_or_below(stake, book.clock_level())
+        !grounds.meter.steady(code_of(instruction))
+            && !grounds.on_clock(self.stake(grounds, instruction))
     }
 
-    // The level of a figure.
-    fn figure_level<S: Scale, M: Meter>(scale: &S, meter: &M, book: &Book, figure: u8) -> u16
-        ensures { result ≡ figure_level (setting (S.Scale.meaning scale.now) (M.Meter.meaning meter.now) (said book.now)) figure }
-    {
-        let levels = book.levels();
-        if (figure as usize) < levels.len() {
-            levels[figure as usize]
-        } else {
-            scale.floor()
-        }
-    }
-
-    // Whether a store puts an amount into a figure that is not at or above its level.
-    fn breaks_direct<S: Scale, M: Meter>(
+    // A store keeps its rules: the figure is at or above the amount that it puts there, and the context.
+    fn check_store<S: Scale, M: Meter>(
         &self,
-        scale: &S,
-        meter: &M,
-        book: &Book,
+        grounds: &Grounds<'_, S, M>,
         figure: u8,
-    ) -> bool
-        ensures { result ≡ breaks_direct (setting (S.Scale.meaning scale.now) (M.Meter.meaning meter.now) (said book.now)) (held self.now.levels) figure }
+        place: u32,
+    ) -> Result<(), CheckFault>
+        ensures { let g = setting_of S.meaning M.meaning grounds.now in result_err result ≡ or_else (broken (breaks_direct g (held self.now.levels) figure) (Direct place)) (broken (breaks_implicit g (held self.now.contexts) figure) (Implicit place)) }
     {
-        let top = self.levels.top().unwrap_or(scale.floor());
-        !scale.at_or_below(top, Self::figure_level(scale, meter, book, figure))
+        let scale = grounds.scale;
+        let level = grounds.figure_level(figure);
+        if !scale.at_or_below(grounds.top(&self.levels), level) {
+            return Err(CheckFault::Direct(place));
+        }
+        if !scale.at_or_below(grounds.top(&self.contexts), level) {
+            return Err(CheckFault::Implicit(place));
+        }
+        Ok(())
     }
 
-    // Whether a store tells of the context to a figure that is not at or above it.
-    fn breaks_implicit<S: Scale, M: Meter>(
+    // The instruction at a place keeps each rule; else the fault is of the smallest that it breaks.
+    pub(crate) fn check_instruction<S: Scale, M: Meter>(
         &self,
-        scale: &S,
-        meter: &M,
-        book: &Book,
-        figure: u8,
-    ) -> bool
-        ensures { result ≡ breaks_implicit (setting (S.Scale.meaning scale.now) (M.Meter.meaning meter.now) (said book.now)) (held self.now.contexts) figure }
+        grounds: &Grounds<'_, S, M>,
+        place: usize,
+        instruction: Instruction,
+    ) -> Result<(), CheckFault>
+        requires { slice_get (said grounds.now.book.now).code place ≡ Some instruction }
+        ensures { result_err result ≡ fault_at (setting_of S.meaning M.meaning grounds.now) place (held self.now.contexts) (held self.now.levels) instruction (drop (place + 1) (said grounds.now.book.now).code) }
     {
-        let context = self.contexts.top().unwrap_or(scale.floor());
-        !scale.at_or_below(context, Self::figure_level(scale, meter, book, figure))
+        let at = place as u32;
+        if self.breaks_charge(grounds, instruction) {
+            return Err(CheckFault::Charge(at));
+        }
+        match instruction {
+            Instruction::Store(figure) => self.check_store(grounds, figure, at),
+            Instruction::If => {
+                let inside = self.stake(grounds, Instruction::If);
+                if !grounds.on_clock(inside) && grounds.parts_differ(place) {
+                    return Err(CheckFault::Parts(at));
+                }
+                Ok(())
+            }
+            _ => Ok(()),
+        }
     }
 
     // Goes past an instruction.
     pub(crate) fn pass<S: Scale, M: Meter>(
         &mut self,
-        scale: &S,
-        meter: &M,
-        book: &Book,
+        grounds: &Grounds<'_, S, M>,
         instruction: Instruction,
     )
-        ensures contexts { held self.new.contexts ≡ contexts_after (setting (S.Scale.meaning scale.now) (M.Meter.meaning meter.now) (said book.now)) (held self.old.contexts) (held self.old.levels) instruction }
-        ensures levels { held self.new.levels ≡ levels_after (setting (S.Scale.meaning scale.now) (M.Meter.meaning meter.now) (said book.now)) (held self.old.levels) instruction }
+        ensures contexts { held self.new.contexts ≡ contexts_after (setting_of S.meaning M.meaning grounds.now) (held self.old.contexts) (held self.old.levels) instruction }
+        ensures levels { held self.new.levels ≡ levels_after (setting_of S.meaning M.meaning grounds.now) (held self.old.levels) instruction }
     {
-        let floor = scale.floor();
+        let floor = grounds.scale.floor();
         match instruction {
             Instruction::Number(_) => {
                 let _ = self.levels.push(floor);
             }
             Instruction::Figure(figure) => {
-                let level = Self::figure_level(scale, meter, book, figure);
+                let level = grounds.figure_level(figure);
                 let _ = self.levels.push(level);
             }
             Instruction::Clock => {
-                let _ = self.levels.push(book.clock_level());
+                let _ = self.levels.push(grounds.book.clock_level());
             }
             Instruction::Operate(_) => {
                 let second = self.levels.pop().unwrap_or(floor);
                 let first = self.levels.pop().unwrap_or(floor);
-                let _ = self.levels.push(scale.join(first, second));
+                let _ = self.levels.push(grounds.scale.join(first, second));
             }
             Instruction::If => {
-                let inside = self.stake(scale, meter, book, instruction);
+                let inside = self.stake(grounds, instruction);
                 let _ = self.contexts.push(inside);
                 self.levels.clear();
             }
             Instruction::Repeat(_) => {
-                let context = self.contexts.top().unwrap_or(floor);
+                let context = grounds.top(&self.contexts);
                 let _ = self.contexts.push(context);
                 self.levels.clear();
             }
@@ -168,33 +161,5 @@ impl Walk {
             }
             Instruction::Store(_) | Instruction::Wait(_) | Instruction::Else => self.levels.clear(),
         }
-    }
-
-    // What is wrong with a store at a place.
-    pub(crate) fn store_fault<S: Scale, M: Meter>(
-        &self,
-        scale: &S,
-        meter: &M,
-        book: &Book,
-        figure: u8,
-        place: u32,
-    ) -> Option<CheckFault>
-        ensures { result ≡ or_else (broken (breaks_direct (setting (S.Scale.meaning scale.now) (M.Meter.meaning meter.now) (said book.now)) (held self.now.levels) figure) (Direct place)) (broken (breaks_implicit (setting (S.Scale.meaning scale.now) (M.Meter.meaning meter.now) (said book.now)) (held self.now.contexts) figure) (Implicit place)) }
-    {
-        if self.breaks_direct(scale, meter, book, figure) {
-            return Some(CheckFault::Direct(place));
-        }
-        if self.breaks_implicit(scale, meter, book, figure) {
-            return Some(CheckFault::Implicit(place));
-        }
-        None
-    }
-
-    // Whether the clock may show the context inside an if that tests the top amount.
-    pub(crate) fn shows_test<S: Scale, M: Meter>(&self, scale: &S, meter: &M, book: &Book) -> bool
-        ensures { result ≡ on_clock (setting (S.Scale.meaning scale.now) (M.Meter.meaning meter.now) (said book.now)) (stake_of (setting (S.Scale.meaning scale.now) (M.Meter.meaning meter.now) (said book.now)) (held self.now.contexts) (held self.now.levels) If) }
-    {
-        let inside = self.stake(scale, meter, book, Instruction::If);
-        scale.at_or_below(inside, book.clock_level())
     }
 }

@@ -1,7 +1,7 @@
 // The house's scale and meter, under which a book is checked if nothing else is chosen: a ladder of two ranks and a card of ones.
 #![tactic(auto)]
 
-ghost use Rattle.std.specs.Prelude.{◌≡◌, ◌<◌};
+ghost use Rattle.std.specs.Prelude.{◌≡◌};
 ghost use Rattle.house.specs.Rulings.{ones, ruling, Settling};
 ghost use Rattle.meter.specs.Cards.{card};
 ghost use Rattle.meter.specs.MadeCards.{card_of};
@@ -32,19 +32,12 @@ pub fn card_of_ones() -> Card
     card
 }
 
-// Changes nothing: a call brings into its caller's proof that so many bytes settle the verdict.
-fn settled(count: u64)
-    requires { 1478 < count }
-    ensures { Settling count }
-{}
-
 // How many bytes settle the verdict, whatever follows them: one more than any book has.
+#[tactic(auto, using(crate::proofs::Settling::settles))]
 pub fn enough() -> u64
     ensures { Settling result }
 {
-    let count = LONGEST + 1;
-    settled(count);
-    count
+    LONGEST + 1
 }
 
 // The verdict on these bytes under the house's scale and meter.

@@ -1,3 +1,1 @@
-pub mod Figures
 pub mod ReadBack
-pub mod Texts

@@ -1,10 +1,10 @@
 -- A line can be read back: its words end at the first space or line feed behind them.
-use Rattle.std.proofs.Common.{◌≡◌, ℕ, ◌+◌, ◌%◌, ◌^◌, ◌<◌, ◌≤◌, List, [], ◌∷◌, ◌++◌, codes, decimal, refl, arith}
-use Rattle.line.specs.Lines.{layer_name, Readable}
-use Rattle.line.specs.declared.Verdict.TheVariants.{Accepted, Refused}
+use Rattle.std.proofs.Common.{◌≡◌, ℕ, ◌+◌, ◌%◌, ◌^◌, ◌<◌, ◌≤◌, List, [], ◌∷◌, ◌++◌, codes, decimal, Ok, Err, refl, arith}
+use Rattle.line.specs.Lines.{Readable}
 use Rattle.refusal.specs.declared.Layer.TheVariants.{Reader, Check, Engine, Maker}
 use Rattle.refusal.specs.declared.Layer.{Layer}
 use Rattle.refusal.specs.declared.Refusal.{Refusal}
+use Rattle.refusal.specs.Layers.{layer_name}
 use Rattle.std.proofs.lemmas.Fmt.{decimal_by_steps, decimal_injective}
 use Rattle.std.proofs.lemmas.List.{append_cancel_right}
 
@@ -60,8 +60,8 @@ same_layer Maker Check e = absurd (apart e (omega arith))
 same_layer Maker Engine e = absurd (apart e (omega arith))
 same_layer Maker Maker e = refl
 
-same_refusal : (a b : Refusal) → a.number ≡ b.number → a.layer ≡ b.layer → a.place ≡ b.place → Refused a ≡ Refused b
-same_refusal a b number layer place = λ i. Refused (record { number = number i; layer = layer i; place = place i })
+same_refusal : (a b : Refusal) → a.number ≡ b.number → a.layer ≡ b.layer → a.place ≡ b.place → a ≡ b
+same_refusal a b number layer place = λ i. record { number = number i; layer = layer i; place = place i }
 
 same_number : (m n : ℕ) → m < 2 ^ 32 → n < 2 ^ 32 → decimal m ++ codes "\n" ≡ decimal n ++ codes "\n" → m ≡ n
 same_number m n p q e = decimal_injective m n (omega arith) (omega arith) (append_cancel_right (decimal m) (decimal n) (codes "\n") e)
@@ -74,16 +74,18 @@ abbrev behind_number : Refusal → List ℕ
 behind_number a = layer_name a.layer ++ (32 ∷ behind_layer a)
 
 pub readable : Readable
-readable (Accepted m) (Accepted n) p q e =
+readable (Ok m) (Ok n) p q e =
     let numbers : decimal m ++ codes "\n" ≡ decimal n ++ codes "\n" = cc in
     let h : m ≡ n = same_number m n p q numbers in
     cc
-readable (Accepted m) (Refused b) p q e = absurd (apart e (omega arith))
-readable (Refused a) (Accepted n) p q e = absurd (apart e (omega arith))
-readable (Refused a) (Refused b) p q e =
+readable (Ok m) (Err b) p q e = absurd (apart e (omega arith))
+readable (Err a) (Ok n) p q e = absurd (apart e (omega arith))
+readable (Err a) (Err b) p q e =
     let first = split (decimal a.number) (decimal b.number) (behind_number a) (behind_number b) (word_decimal a.number (omega arith)) (word_decimal b.number (omega arith)) cc in
     let second = split (layer_name a.layer) (layer_name b.layer) (behind_layer a) (behind_layer b) (word_layer a.layer) (word_layer b.layer) first.1 in
+    let same : a ≡ b =
     same_refusal a b
     (decimal_injective a.number b.number (omega arith) (omega arith) first.0)
     (same_layer a.layer b.layer second.0)
-    (same_number a.place b.place p.1 q.1 second.1)
+    (same_number a.place b.place p.1 q.1 second.1) in
+    cc

@@ -1,81 +1,62 @@
 // The one line that a checking program prints about a rule book: `accepted EVENTS`, or `refused NUMBER LAYER PLACE`.
 #![tactic(auto)]
 
-ghost use Rattle.std.specs.Prelude.{◌≡◌, ◌≤◌};
-ghost use Rattle.line.specs.Drafts.{said, Sound};
-ghost use Rattle.line.specs.Lines.{layer_name, line, Readable, Written};
+ghost use Rattle.std.specs.Prelude.{◌≡◌, ◌≤◌, length};
+ghost use Rattle.line.specs.Lines.{line, Readable, Written};
 
-mod draft;
+use arrayvec::ArrayString;
+use itoa::Buffer;
+use refusal::{MakerFault, Refusal};
 
-use draft::{Draft, ROOM};
-use refusal::{Layer, MakerFault, Refusal};
+// Every line fits this many bytes.
+pub const ROOM: usize = 32;
 
 // What became of a rule book: accepted, with the number of its events, or refused.
-#[derive(Clone, Copy, PartialEq, Eq, Debug)]
-pub enum Verdict {
-    Accepted(u32),
-    Refused(Refusal),
-}
+pub type Verdict = Result<u32, Refusal>;
 
-// The word for a layer.
-fn layer_name(layer: Layer) -> &'static [u8]
-    ensures { result.now ≡ layer_name layer }
+// The verdict's line. Its parts are pushed one by one, since a `write!` may fail for all that its contract says.
+pub fn line_of(verdict: Verdict) -> ArrayString<ROOM>
+    ensures text { result.bytes ≡ line verdict }
+    ensures short { length result.bytes ≤ 30 }
 {
-    match layer {
-        Layer::Reader => b"reader",
-        Layer::Check => b"check",
-        Layer::Engine => b"engine",
-        Layer::Maker => b"maker",
-    }
-}
-
-// The verdict's line, put together from its end.
-fn draft_line(verdict: Verdict) -> Draft
-    ensures sound { Sound result }
-    ensures text { said result ≡ line verdict }
-    ensures start { 2 ≤ result.start }
-{
-    let mut draft = Draft::empty();
-    draft.put(b"\n");
+    let mut line = ArrayString::new();
+    let mut digits = Buffer::new();
     match verdict {
-        Verdict::Accepted(events) => {
-            draft.put_number(events);
-            draft.put(b"accepted ");
+        Ok(events) => {
+            line.push_str("accepted ");
+            line.push_str(digits.format(events));
         }
-        Verdict::Refused(refusal) => {
-            draft.put_number(refusal.place);
-            draft.put(b" ");
-            draft.put(layer_name(refusal.layer));
-            draft.put(b" ");
-            draft.put_number(u32::from(refusal.number));
-            draft.put(b"refused ");
+        Err(refusal) => {
+            line.push_str("refused ");
+            line.push_str(digits.format(refusal.number));
+            line.push_str(" ");
+            line.push_str(refusal.layer.name());
+            line.push_str(" ");
+            line.push_str(digits.format(refusal.place));
         }
     }
-    draft
+    line.push_str("\n");
+    line
 }
 
-// Does nothing: its contract is the law that a line can be read back.
-fn lines_differ()
-    ensures { Readable }
-{}
-
-// Writes the verdict's line to the buffer's start and answers the line's length.
+// Writes the verdict's line to the start of the caller's buffer, as C lends it, and answers the line's length.
+#[tactic(auto, using(crate::proofs::ReadBack::readable))]
 pub fn write_line(verdict: Verdict, buffer: &mut [u8]) -> Result<usize, MakerFault>
     ensures written { Written verdict buffer.old result buffer.new }
     ensures readable { Readable }
 {
-    lines_differ();
     if buffer.len() < ROOM {
         return Err(MakerFault::LineBuffer);
     }
-    let draft = draft_line(verdict);
-    draft.copy_to(buffer);
-    Ok(draft.length())
+    let line = line_of(verdict);
+    buffer[..line.len()].copy_from_slice(line.as_bytes());
+    Ok(line.len())
 }
 
 #[cfg(test)]
 mod tests {
     use super::*;
+    use refusal::Layer;
     use std::process::Abort;
     use std::test::Fail;
 
@@ -91,7 +72,7 @@ mod tests {
     }
 
     fn refused(number: u8, layer: Layer, place: u32) -> Verdict {
-        Verdict::Refused(Refusal {
+        Err(Refusal {
             number,
             layer,
             place,
@@ -100,13 +81,9 @@ mod tests {
 
     #[test]
     fn accepted_lines(rt: HostRuntime) -> Result<(), Fail> {
-        check_line(&rt, Verdict::Accepted(0), b"accepted 0\n")?;
-        check_line(&rt, Verdict::Accepted(1), b"accepted 1\n")?;
-        check_line(
-            &rt,
-            Verdict::Accepted(4_294_967_295),
-            b"accepted 4294967295\n",
-        )
+        check_line(&rt, Ok(0), b"accepted 0\n")?;
+        check_line(&rt, Ok(1), b"accepted 1\n")?;
+        check_line(&rt, Ok(4_294_967_295), b"accepted 4294967295\n")
     }
 
     #[test]
@@ -138,12 +115,9 @@ mod tests {
     #[test]
     fn room_of_32_and_31(rt: HostRuntime) {
         let mut enough = [7; 32];
-        assert_eq!(rt; write_line(Verdict::Accepted(5), &mut enough), Ok(11));
+        assert_eq!(rt; write_line(Ok(5), &mut enough), Ok(11));
         let mut short = [7; 31];
-        assert_eq!(rt;
-            write_line(Verdict::Accepted(5), &mut short),
-            Err(MakerFault::LineBuffer)
-        );
+        assert_eq!(rt; write_line(Ok(5), &mut short), Err(MakerFault::LineBuffer));
         assert_eq!(rt; short, [7; 31]);
     }
 }

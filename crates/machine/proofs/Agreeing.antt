@@ -1,18 +1,14 @@
 -- Two lists of amounts beside a list of their levels, which agree for an observer: stacks and figures alike.
-use Rattle.std.proofs.Common.{◌≡◌, ℕ, zero, suc, ◌<◌, ltb, List, [], ◌∷◌, length, get_or, set, ℤ, pos, sym, refl, ap, subst₂, arith}
+use Rattle.std.proofs.Common.{◌≡◌, ℕ, zero, suc, ◌<◌, List, [], ◌∷◌, length, get_or, set, ℤ, pos, sym, refl, ap, subst₂, arith}
 use Rattle.machine.proofs.Observing.{Sees, Hidden}
+use Rattle.machine.proofs.RuleRuns.{room}
 use Rattle.scale.specs.Scales.{ScaleModel}
 use Rattle.stack.specs.Stacks.{pushed, rest}
-use Rattle.std.proofs.lemmas.Bool.{cond-true, lt-ltb}
 
 -- Agree s L ls xs ys: xs and ys are as long as ls, and have the same amount wherever an observer at L sees the level in ls
 pub data Agree (s : ScaleModel) (L : ℕ) : List ℕ → List ℤ → List ℤ → Type 0 where
   none : Agree s L [] [] []
   more : {l : ℕ} {ls : List ℕ} {x y : ℤ} {xs ys : List ℤ} → (Sees s L l → x ≡ y) → Agree s L ls xs ys → Agree s L (l ∷ ls) (x ∷ xs) (y ∷ ys)
-
--- one more item where there is room
-push : {T : Type 0} (x : T) (xs : List T) → length xs < 8 → pushed x xs ≡ x ∷ xs
-push x xs h = cond-true (ltb (length xs) 8) (x ∷ xs) xs (lt-ltb (length xs) 8 h)
 
 module _ {s : ScaleModel} {L : ℕ} where
   -- the second list first
@@ -50,9 +46,9 @@ module _ {s : ScaleModel} {L : ℕ} where
   -- one amount more on top of each
   pub agree_push : {ls : List ℕ} {xs ys : List ℤ} → Agree s L ls xs ys → (l : ℕ) (x y : ℤ) → length ls < 8 → (Sees s L l → x ≡ y) → Agree s L (l ∷ ls) (pushed x xs) (pushed y ys)
   agree_push {ls} {xs} {ys} t l x y h e =
-      let room = push x xs (omega (arith, agree_length t)) in
-      let room-too = push y ys (omega (arith, agree_length (agree_flip t))) in
-      subst₂ (Agree s L (l ∷ ls)) (sym room) (sym room-too) (more e t)
+      let fits = room x xs (omega (arith, agree_length t)) in
+      let fits-too = room y ys (omega (arith, agree_length (agree_flip t))) in
+      subst₂ (Agree s L (l ∷ ls)) (sym fits) (sym fits-too) (more e t)
 
   -- Lists that agree place by place, by induction on all three: they are as long.
   pub agree_from : (ls : List ℕ) (xs ys : List ℤ) (d : ℕ) → length xs ≡ length ls → length ys ≡ length ls → ((v : ℕ) → v < length ls → Sees s L (get_or ls v d) → get_or xs v (pos 0) ≡ get_or ys v (pos 0)) → Agree s L ls xs ys

@@ -1,16 +1,15 @@
 -- How a run goes on from each place of sound code, by the instruction that stands there.
-use Rattle.std.proofs.Common.{◌≡◌, ℕ, suc, ◌+◌, ◌-◌, ◌<◌, ◌≤◌, true, false, cond, List, length, get_or, drop, ℤ, sym, refl, ap, ◌∙◌, add-one, arith}
+use Rattle.std.proofs.Common.{◌≡◌, ℕ, suc, ◌+◌, ◌-◌, ◌<◌, ◌≤◌, true, false, cond, List, length, get_or, drop, sym, ap, ◌∙◌, add-one, arith}
 use Rattle.book.proofs.Ifs.{if_at}
 use Rattle.book.proofs.Insides.{else_at, repeat_at}
 use Rattle.book.specs.declared.instruction.Instruction.{Instruction}
-use Rattle.book.specs.declared.instruction.Instruction.TheVariants.{Stop, Number, Figure, Clock, Operate, Store, If, Repeat, Wait, Else, End}
-use Rattle.book.specs.declared.instruction.Operation.{Operation}
+use Rattle.book.specs.declared.instruction.Instruction.TheVariants.{Stop, If, Repeat, Else, End}
 use Rattle.book.specs.Reads.{sound}
 use Rattle.book.specs.Trees.{Ahead, before, closed, done, elsing, grow, here, looped, parse, plain}
-use Rattle.machine.proofs.Landings.{Fork, block_at, fork_at, jump_fits}
+use Rattle.machine.proofs.Landings.{Fork, block_at, fork_at, jump_at}
 use Rattle.machine.proofs.Through.{through, through_branch, through_else, through_loop, through_nothing, through_plain, through_stop}
 use Rattle.steps.specs.Amounts.{is_zero}
-use Rattle.machine.specs.Jumps.{end_behind, jump_from, target}
+use Rattle.machine.specs.Jumps.{end_behind, jump_from}
 use Rattle.steps.specs.Machines.{Machine, amount_at, emptied, perform}
 use Rattle.steps.specs.Runs.{exec, times}
 use Rattle.meter.specs.Meters.{MeterModel}
@@ -87,7 +86,7 @@ module _ (m : MeterModel) (code : List Instruction) where
     pub goes_else : (k p : ℕ) (s : Machine) → p < length code → get_or code p Stop ≡ Else → (goes m code k p s ≡ goes m code k (jump_from code p) s) × (p < jump_from code p) × (jump_from code p ≤ length code)
     goes_else k p s h e =
         let b = block_at code p (else_at nv code p fine e) in
-        let jump : jump_from code p ≡ end_behind code p = ap (target code p) e in (
+        let jump : jump_from code p ≡ end_behind code p = jump_at code p e in (
           goes_at k p Else s h e
               ∙ ap (λ a. through m k (closed elsing done a) s) b.inside
               ∙ through_else m k b.stretch b.after s
@@ -101,7 +100,7 @@ module _ (m : MeterModel) (code : List Instruction) where
     pub goes_repeat : (k p n : ℕ) (s : Machine) → p < length code → get_or code p Stop ≡ Repeat n → (goes m code k p s ≡ goes m code k (jump_from code p + 1) (emptied (times n (turn m code p n) s))) × (p < jump_from code p) × (jump_from code p + 1 ≤ length code)
     goes_repeat k p n s h e =
         let b = block_at code p (repeat_at nv code p n fine e) in
-        let jump : jump_from code p ≡ end_behind code p = ap (target code p) e in (
+        let jump : jump_from code p ≡ end_behind code p = jump_at code p e in (
           goes_at k p (Repeat n) s h e
               ∙ ap (λ a. through m k (looped n a) s) b.inside
               ∙ through_loop m k n b.stretch b.after s
@@ -112,44 +111,103 @@ module _ (m : MeterModel) (code : List Instruction) where
           omega (arith, jump, b.fits),
         )
 
--- How a run goes on, with the open ifs counted up and down.
-pub record Going (m : MeterModel) (code : List Instruction) : Type 0 where
-  pub number : (k p : ℕ) (s : Machine) (z : ℤ) → p < length code → get_or code p Stop ≡ Number z → goes m code k p s ≡ goes m code k (p + 1) (perform m (Number z) s)
-  pub figure : (k p : ℕ) (s : Machine) (v : ℕ) → p < length code → get_or code p Stop ≡ Figure v → goes m code k p s ≡ goes m code k (p + 1) (perform m (Figure v) s)
-  pub clock : (k p : ℕ) (s : Machine) → p < length code → get_or code p Stop ≡ Clock → goes m code k p s ≡ goes m code k (p + 1) (perform m Clock s)
-  pub operates : (k p : ℕ) (s : Machine) (o : Operation) → p < length code → get_or code p Stop ≡ Operate o → goes m code k p s ≡ goes m code k (p + 1) (perform m (Operate o) s)
-  pub stores : (k p : ℕ) (s : Machine) (v : ℕ) → p < length code → get_or code p Stop ≡ Store v → goes m code k p s ≡ goes m code k (p + 1) (perform m (Store v) s)
-  pub waits : (k p : ℕ) (s : Machine) (n : ℕ) → p < length code → get_or code p Stop ≡ Wait n → goes m code k p s ≡ goes m code k (p + 1) (perform m (Wait n) s)
-  pub taken : (k p : ℕ) (s : Machine) → p < length code → get_or code p Stop ≡ If → is_zero (amount_at s.stack 0) ≡ false → goes m code k p s ≡ goes m code (k + 1) (p + 1) (perform m If s)
-  pub left_out : (k p : ℕ) (s : Machine) → p < length code → get_or code p Stop ≡ If → is_zero (amount_at s.stack 0) ≡ true → (goes m code k p s ≡ goes m code (k + 1) (jump_from code p) (perform m If s)) × (p < jump_from code p) × (jump_from code p ≤ length code)
-  pub elses : (k p : ℕ) (s : Machine) → p < length code → get_or code p Stop ≡ Else → (goes m code k p s ≡ goes m code k (jump_from code p) s) × (p < jump_from code p) × (jump_from code p ≤ length code)
-  pub ended : (k p : ℕ) (s : Machine) → p < length code → get_or code p Stop ≡ End → 0 < k → goes m code k p s ≡ goes m code (k - 1) (p + 1) (emptied s)
-  pub returns : (k p : ℕ) (s : Machine) → p < length code → get_or code p Stop ≡ End → k ≡ 0 → goes m code k p s ≡ s
-  pub stops : (k p : ℕ) (s : Machine) → p < length code → get_or code p Stop ≡ Stop → goes m code k p s ≡ s
-  pub repeats : (k p n : ℕ) (s : Machine) → p < length code → get_or code p Stop ≡ Repeat n → (goes m code k p s ≡ goes m code k (jump_from code p + 1) (emptied (times n (turn m code p n) s))) × (p < jump_from code p) × (jump_from code p + 1 ≤ length code)
-  pub past : (k p : ℕ) (s : Machine) → length code ≤ p → goes m code k p s ≡ s
-  pub jumps : (p : ℕ) → jump_from code p ≤ length code
+-- Standing m nv code from k p s r: a run of sound code that began at place from and ends as r stands at place p, with k
+-- ifs open and machine s.
+pub record Standing (m : MeterModel) (nv : ℕ) (code : List Instruction) (from k p : ℕ) (s r : Machine) : Type 0 where
+  pub fine : sound nv code ≡ true
+  pub since : from ≤ p
+  pub within : p ≤ length code
+  pub opened : k ≤ p
+  pub ahead : goes m code k p s ≡ r
 
--- So goes every run of sound code.
-pub going : (m : MeterModel) (nv : ℕ) (code : List Instruction) → sound nv code ≡ true → Going m code
-going m nv code fine = record {
-  number = λ k p s z. goes_plain m code (Number z) (λ a. refl) k p s;
-  figure = λ k p s v. goes_plain m code (Figure v) (λ a. refl) k p s;
-  clock = goes_plain m code Clock (λ a. refl);
-  operates = λ k p s o. goes_plain m code (Operate o) (λ a. refl) k p s;
-  stores = λ k p s v. goes_plain m code (Store v) (λ a. refl) k p s;
-  waits = λ k p s n. goes_plain m code (Wait n) (λ a. refl) k p s;
-  taken = λ k p s h e t. goes_taken m code nv fine k p s h e t ∙ ap (λ j. goes m code j (p + 1) (perform m If s)) (sym (add-one k));
-  left_out = λ k p s h e t.
-      let w = goes_left_out m code nv fine k p s h e t in
-      (w.0 ∙ ap (λ j. goes m code j (jump_from code p) (perform m If s)) (sym (add-one k)), w.1, w.2);
-  elses = goes_else m code nv fine;
-  ended = λ k p s h e o.
-      let one : k ≡ suc (k - 1) = omega arith in
-      ap (λ j. goes m code j p s) one ∙ goes_end m code (k - 1) p s h e;
-  returns = λ k p s h e z. ap (λ j. goes m code j p s) z ∙ goes_last m code p s h e;
-  stops = goes_stop m code;
-  repeats = goes_repeat m code nv fine;
-  past = goes_past m code;
-  jumps = jump_fits nv code fine;
-}
+-- How it goes on from there, by the instruction that stands there in the same code.
+module _ {m : MeterModel} {nv : ℕ} {code is : List Instruction} {from k p : ℕ} {s r : Machine} (same : is ≡ code) (w : Standing m nv code from k p s r) where
+  -- the instruction, in the one code and in the other
+  here_at : {i : Instruction} → get_or is p Stop ≡ i → get_or code p Stop ≡ i
+  here_at e = ap (λ c. get_or c p Stop) (sym same) ∙ e
+
+  inside : p < length is → p < length code
+  inside h = omega (arith, ap length same)
+
+  pub on_plain : {t : Machine} (i : Instruction) → ((a : Ahead) → before i a ≡ grow (plain i) a) → p < length is → get_or is p Stop ≡ i → t ≡ perform m i s → Standing m nv code from k (p + 1) t r
+  on_plain i is_plain h e after =
+      let lt = inside h in
+      record {
+        fine = w.fine;
+        since = omega (arith, w.since);
+        within = omega (arith, lt);
+        opened = omega (arith, w.opened);
+        ahead = ap (goes m code k (p + 1)) after ∙ sym (goes_plain m code i is_plain k p s lt (here_at e)) ∙ w.ahead;
+      }
+
+  pub on_taken : {t : Machine} → p < length is → get_or is p Stop ≡ If → is_zero (amount_at s.stack 0) ≡ false → t ≡ perform m If s → Standing m nv code from (k + 1) (p + 1) t r
+  on_taken h e z after =
+      let lt = inside h in
+      record {
+        fine = w.fine;
+        since = omega (arith, w.since);
+        within = omega (arith, lt);
+        opened = omega (arith, w.opened);
+        ahead = (λ i. goes m code (add-one k i) (p + 1) (after i)) ∙ sym (goes_taken m code nv w.fine k p s lt (here_at e) z) ∙ w.ahead;
+      }
+
+  pub on_left_out : {j : ℕ} {t : Machine} → p < length is → get_or is p Stop ≡ If → is_zero (amount_at s.stack 0) ≡ true → j ≡ jump_from code p → t ≡ perform m If s → Standing m nv code from (k + 1) j t r × (p < j)
+  on_left_out h e z jump after =
+      let step = goes_left_out m code nv w.fine k p s (inside h) (here_at e) z in (
+        record {
+          fine = w.fine;
+          since = omega (arith, w.since, jump, step.1);
+          within = omega (arith, jump, step.2);
+          opened = omega (arith, w.opened, jump, step.1);
+          ahead = (λ i. goes m code (add-one k i) (jump i) (after i)) ∙ sym step.0 ∙ w.ahead;
+        },
+        omega (arith, jump, step.1),
+      )
+
+  pub on_else : {j : ℕ} → p < length is → get_or is p Stop ≡ Else → j ≡ jump_from code p → Standing m nv code from k j s r × (p < j)
+  on_else h e jump =
+      let step = goes_else m code nv w.fine k p s (inside h) (here_at e) in (
+        record {
+          fine = w.fine;
+          since = omega (arith, w.since, jump, step.1);
+          within = omega (arith, jump, step.2);
+          opened = omega (arith, w.opened, jump, step.1);
+          ahead = ap (λ q. goes m code k q s) jump ∙ sym step.0 ∙ w.ahead;
+        },
+        omega (arith, jump, step.1),
+      )
+
+  pub on_repeat : {j : ℕ} {t : Machine} (n : ℕ) → p < length is → get_or is p Stop ≡ Repeat n → j ≡ jump_from code p → t ≡ emptied (times n (turn m code p n) s) → Standing m nv code from k (j + 1) t r × (p < j)
+  on_repeat n h e jump after =
+      let step = goes_repeat m code nv w.fine k p n s (inside h) (here_at e) in (
+        record {
+          fine = w.fine;
+          since = omega (arith, w.since, jump, step.1);
+          within = omega (arith, jump, step.2);
+          opened = omega (arith, w.opened, jump, step.1);
+          ahead = (λ i. goes m code k (jump i + 1) (after i)) ∙ sym step.0 ∙ w.ahead;
+        },
+        omega (arith, jump, step.1),
+      )
+
+  pub on_end : {t : Machine} → p < length is → get_or is p Stop ≡ End → 0 < k → t ≡ emptied s → Standing m nv code from (k - 1) (p + 1) t r
+  on_end h e some after =
+      let lt = inside h in
+      let one : k ≡ suc (k - 1) = omega (arith, some) in
+      record {
+        fine = w.fine;
+        since = omega (arith, w.since);
+        within = omega (arith, lt);
+        opened = omega (arith, w.opened);
+        ahead = ap (goes m code (k - 1) (p + 1)) after ∙ sym (ap (λ j. goes m code j p s) one ∙ goes_end m code (k - 1) p s lt (here_at e)) ∙ w.ahead;
+      }
+
+  -- and where it ends
+  pub at_end : p < length is → get_or is p Stop ≡ End → k ≡ 0 → s ≡ r
+  at_end h e none = sym (ap (λ j. goes m code j p s) none ∙ goes_last m code p s (inside h) (here_at e)) ∙ w.ahead
+
+  pub at_stop : p < length is → get_or is p Stop ≡ Stop → s ≡ r
+  at_stop h e = sym (goes_stop m code k p s (inside h) (here_at e)) ∙ w.ahead
+
+  pub at_last : length is ≤ p → s ≡ r
+  at_last h = sym (goes_past m code k p s (omega (arith, h, ap length same))) ∙ w.ahead

@@ -16,6 +16,7 @@ use Rattle.machine.specs.Jumps.{end_behind, end_from, jump_from, leaves_out, tar
 use Rattle.steps.specs.Machines.{Machine, emptied}
 use Rattle.steps.specs.Runs.{exec}
 use Rattle.meter.specs.Meters.{MeterModel}
+use Rattle.std.specs.Option.{unwrap_or}
 use Rattle.std.proofs.lemmas.List.{drop-drop, length-append, length-drop}
 
 -- what stands k places behind the front of what is left, by its place
@@ -27,6 +28,10 @@ behind code n front back e k q at =
 -- and that place is within the code
 within : (code : List Instruction) (n : ℕ) (front back : List Instruction) (i : Instruction) → drop n code ≡ front ++ (i ∷ back) → n + length front + 1 + length back ≡ length code
 within code n front back i e = omega (arith, length-drop n code, ap length e, length-append front (i ∷ back))
+
+-- the jump from the instruction at a place
+pub jump_at : (code : List Instruction) (p : ℕ) {i : Instruction} → get_or code p Stop ≡ i → jump_from code p ≡ unwrap_or (target code p i) 0
+jump_at code p e = ap (λ i. unwrap_or (target code p i) 0) e
 
 -- what an else or a repeat at place p has behind it: a stretch up to its end, and what is ahead behind that
 pub record Block (code : List Instruction) (p : ℕ) : Type 0 where
@@ -75,7 +80,7 @@ fork_at code p e (alone {f} after l says q w) =
     let F = flat f in
     let size = within code n F after End says in
     let none : matching_else code p ≡ None = at_if code p (omega (arith, size)) e ∙ ap (seek 0 n) says ∙ seek_end q n after in
-    let jump : jump_from code p ≡ n + length F = ap (target code p) e ∙ ap (λ o. leaves_out o (end_behind code p)) none ∙ ap (end_from 0 n) says ∙ end_behind_lem q n after in
+    let jump : jump_from code p ≡ n + length F = jump_at code p e ∙ ap (λ o. leaves_out o (end_behind code p)) none ∙ ap (end_from 0 n) says ∙ end_behind_lem q n after in
     let ahead : parse (drop n code) ≡ closed ending f (parse after) = ap parse says ∙ parse_flat q ending after in
     let there : parse (drop (jump_from code p) code) ≡ closed ending done (parse after) = ap parse (behind code n F (End ∷ after) says 0 (jump_from code p) (omega (arith, jump))) in
     record {
@@ -95,7 +100,7 @@ fork_at code p e (paired {f} {s = g} after l says q r w x) =
     let second = flat g ++ (End ∷ after) in
     let size = within code n F second Else says in
     let found : matching_else code p ≡ Some (n + length F) = at_if code p (omega (arith, size)) e ∙ ap (seek 0 n) says ∙ seek_else q n second in
-    let jump : jump_from code p ≡ n + length F + 1 = ap (target code p) e ∙ ap (λ o. leaves_out o (end_behind code p)) found in
+    let jump : jump_from code p ≡ n + length F + 1 = jump_at code p e ∙ ap (λ o. leaves_out o (end_behind code p)) found in
     let ahead : parse (drop n code) ≡ closed elsing f (closed ending g (parse after)) = ap parse says ∙ parse_flat q elsing second ∙ ap (closed elsing f) (parse_flat r ending after) in
     let there : parse (drop (jump_from code p) code) ≡ closed ending g (parse after) = ap parse (behind code n F (Else ∷ second) says 1 (jump_from code p) (omega (arith, jump))) ∙ parse_flat r ending after in
     record {
@@ -121,14 +126,14 @@ jump_fits nv code fine p = by (get_or code p Stop) refl
     to_end t b = omega (arith, b.fits)
 
     by : (i : Instruction) → get_or code p Stop ≡ i → jump_from code p ≤ length code
-    by (Number z) e = none (ap (target code p) e)
-    by (Figure v) e = none (ap (target code p) e)
-    by Clock e = none (ap (target code p) e)
-    by (Operate o) e = none (ap (target code p) e)
-    by (Store v) e = none (ap (target code p) e)
+    by (Number z) e = none (jump_at code p e)
+    by (Figure v) e = none (jump_at code p e)
+    by Clock e = none (jump_at code p e)
+    by (Operate o) e = none (jump_at code p e)
+    by (Store v) e = none (jump_at code p e)
     by If e = (fork_at code p e (if_at nv code p fine e)).fits
-    by (Repeat n) e = to_end (ap (target code p) e) (block_at code p (repeat_at nv code p n fine e))
-    by (Wait n) e = none (ap (target code p) e)
-    by Else e = to_end (ap (target code p) e) (block_at code p (else_at nv code p fine e))
-    by End e = none (ap (target code p) e)
-    by Stop e = none (ap (target code p) e)
+    by (Repeat n) e = to_end (jump_at code p e) (block_at code p (repeat_at nv code p n fine e))
+    by (Wait n) e = none (jump_at code p e)
+    by Else e = to_end (jump_at code p e) (block_at code p (else_at nv code p fine e))
+    by End e = none (jump_at code p e)
+    by Stop e = none (jump_at code p e)

@@ -12,8 +12,8 @@ use Rattle.meter.specs.Meters.{MeterModel}
 use Rattle.stack.specs.Stacks.{pushed}
 use Rattle.std.proofs.lemmas.Bool.{cond-true, cond-false, lt-ltb}
 
--- a stack of fewer than eight takes one amount more
-pub room : (x : ℤ) (st : List ℤ) → length st < 8 → pushed x st ≡ x ∷ st
+-- a stack of fewer than eight takes one item more
+pub room : {T : Type 0} (x : T) (st : List T) → length st < 8 → pushed x st ≡ x ∷ st
 room x st l = cond-true (ltb (length st) 8) (x ∷ st) st (lt-ltb (length st) 8 l)
 
 -- a machine with nothing on its stack stays as it is when it is emptied

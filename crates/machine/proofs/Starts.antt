@@ -1,10 +1,9 @@
 -- Where an event starts, one instruction after the other, and which event starts there.
-use Rattle.std.proofs.Common.{◌≡◌, ℕ, zero, suc, ◌+◌, ◌-◌, ◌<◌, ◌≤◌, cond, List, [], ◌∷◌, ◌++◌, length, get_or, take, drop, Some, None, sym, refl, ap, ◌∙◌, arith}
+use Rattle.std.proofs.Common.{◌≡◌, ℕ, zero, suc, ◌+◌, ◌<◌, ◌≤◌, List, [], ◌∷◌, ◌++◌, length, get_or, take, drop, Some, None, sym, refl, ap, ◌∙◌, arith}
 use Rattle.book.proofs.Parses.{parse_flat}
 use Rattle.book.specs.declared.instruction.Instruction.{Instruction}
 use Rattle.book.specs.declared.instruction.Instruction.TheVariants.{Stop, Else, End}
 use Rattle.book.specs.Forms.{Formed, ends, number, figure, clock, operate, store, wait, one_part, two_parts, turns}
-use Rattle.book.specs.Reads.{is_stop}
 use Rattle.book.specs.Trees.{Code, done, flat, whole, here, parse, stopping}
 use Rattle.machine.specs.Events.{event_at}
 use Rattle.std.proofs.lemmas.List.{append_assoc, drop_at, drop-drop, length-append}
@@ -13,12 +12,6 @@ use Rattle.std.specs.List.{AllByRecursion}
 pub event_here : (n p : ℕ) (i : Instruction) (is : List Instruction) → n ≡ 0 → event_at n p (i ∷ is) ≡ Some p
 event_here zero p i is e = refl
 event_here (suc n) p i is e = absurd (omega arith)
-
-pub event_on : (n p : ℕ) (i : Instruction) (is : List Instruction) → 0 < n → event_at n p (i ∷ is) ≡ cond (is_stop i) (event_at (n - 1) (p + 1) is) (event_at n (p + 1) is)
-event_on zero p i is h = absurd (omega arith)
-event_on (suc n) p i is h =
-    let less : suc n - 1 ≡ n = omega arith in
-    ap (λ k. cond (is_stop i) (event_at k (p + 1) is) (event_at (suc n) (p + 1) is)) (sym less)
 
 -- no event starts inside a stretch: by induction on how it is formed, as it has no stop
 pub event_flat : {nv d h : ℕ} {c : Code} → Formed nv d h c → (n p : ℕ) (is : List Instruction) → event_at (suc n) p (flat c ++ is) ≡ event_at (suc n) (p + length (flat c)) is

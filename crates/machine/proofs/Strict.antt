@@ -26,19 +26,19 @@ module _ (m : MeterModel) (nv : ℕ) where
       subst (λ y. Goes m c (at (x ∷ st) fs t) (exec m c (at y fs t))) (sym (room x st (omega arith))) (k (x ∷ st) fs t (ap suc e) f)
 
   operates : {h : ℕ} (o : Operation) (c : Code) → suc (suc h) ≤ 8 → Follows m nv (suc h) c → Follows m nv (suc (suc h)) (plain (Operate o) c)
-  operates o c l k [] fs t e f = let never : ⊥ = omega arith in absurd never
-  operates o c l k (b ∷ []) fs t e f = let never : ⊥ = omega arith in absurd never
+  operates o c l k [] fs t e f = absurd (omega arith)
+  operates o c l k (b ∷ []) fs t e f = absurd (omega arith)
   operates o c l k (b ∷ a ∷ st) fs t e f =
       operation (pushes c k (operate o a b) st fs (later t (m.charge (code_of (Operate o)) a b)) (omega arith) (omega arith) f)
 
   stores : (v : ℕ) (c : Code) → v < nv → Follows m nv 0 c → Follows m nv 1 (plain (Store v) c)
-  stores v c l k [] fs t e f = let never : ⊥ = omega arith in absurd never
+  stores v c l k [] fs t e f = absurd (omega arith)
   stores v c l k (a ∷ []) fs t e f = store (omega arith) (k [] (set fs v a) (later t (m.charge 10 a (pos 0))) refl (length-set fs v a ∙ f))
-  stores v c l k (a ∷ b ∷ st) fs t e f = let never : ⊥ = omega arith in absurd never
+  stores v c l k (a ∷ b ∷ st) fs t e f = absurd (omega arith)
 
   waits : (n : ℕ) (c : Code) → Follows m nv 0 c → Follows m nv 0 (plain (Wait n) c)
   waits n c k [] fs t e f = wait (k [] fs (later t n) refl f)
-  waits n c k (a ∷ st) fs t e f = let never : ⊥ = omega arith in absurd never
+  waits n c k (a ∷ st) fs t e f = absurd (omega arith)
 
   -- from what a part has left
   after : (c : Code) → Follows m nv 0 c → (q : Machine) → q.stack ≡ [] → length q.figures ≡ nv → Goes m c q (exec m c (emptied q))
@@ -54,9 +54,9 @@ module _ (m : MeterModel) (nv : ℕ) where
       first z p (after c kc _ (leaves_empty m p) (keeps_figures m p ∙ e))
 
   branches : (b : Bool) (f g c : Code) → Follows m nv 0 f → Follows m nv 0 g → Follows m nv 0 c → Follows m nv 1 (branch b f g c)
-  branches b f g c kf kg kc [] fs t e l = let never : ⊥ = omega arith in absurd never
+  branches b f g c kf kg kc [] fs t e l = absurd (omega arith)
   branches b f g c kf kg kc (a ∷ []) fs t e l = chooses b f g c kf kg kc a fs t l (is_zero a) refl
-  branches b f g c kf kg kc (a ∷ x ∷ st) fs t e l = let never : ⊥ = omega arith in absurd never
+  branches b f g c kf kg kc (a ∷ x ∷ st) fs t e l = absurd (omega arith)
 
   -- n turns of a repeat, whatever its count
   takes_turns : (k n : ℕ) (f : Code) → Follows m nv 0 f → (q : Machine) → q.stack ≡ [] → length q.figures ≡ nv → Turns m n f q (times n (λ s. exec m f (perform m (Repeat k) s)) q)
@@ -71,11 +71,11 @@ module _ (m : MeterModel) (nv : ℕ) where
   loops n f c kf kc [] fs t e l =
       let p = takes_turns n n f kf (at [] fs t) refl l in
       turns p (after c kc _ (turns_empty m p) (turns_keep m p ∙ l))
-  loops n f c kf kc (a ∷ st) fs t e l = let never : ⊥ = omega arith in absurd never
+  loops n f c kf kc (a ∷ st) fs t e l = absurd (omega arith)
 
   finishes : Follows m nv 0 done
   finishes [] fs t e f = ends
-  finishes (a ∷ st) fs t e f = let never : ⊥ = omega arith in absurd never
+  finishes (a ∷ st) fs t e f = absurd (omega arith)
 
   -- By induction on how the stretch is formed, one line for each form.
   follows : {d h : ℕ} {c : Code} → Formed nv d h c → h ≤ 8 → Follows m nv h c
@@ -93,10 +93,6 @@ module _ (m : MeterModel) (nv : ℕ) where
 -- a formed stretch goes by the rules where the machine has the amounts and the figures that it is formed for
 pub goes : {nv d h : ℕ} {c : Code} (m : MeterModel) → Formed nv d h c → (s : Machine) → length s.stack ≡ h → h ≤ 8 → length s.figures ≡ nv → Goes m c s (exec m c s)
 goes {nv} m p s e l f = follows m nv p l s.stack s.figures s.clock e f
-
--- and so it leaves the stack empty
-pub run_empties : {nv d h : ℕ} {c : Code} (m : MeterModel) → Formed nv d h c → (s : Machine) → length s.stack ≡ h → h ≤ 8 → length s.figures ≡ nv → (exec m c s).stack ≡ []
-run_empties m p s e l f = leaves_empty m (goes m p s e l f)
 
 -- and as many figures as there were
 pub run_keeps : {nv d h : ℕ} {c : Code} (m : MeterModel) → Formed nv d h c → (s : Machine) → length s.stack ≡ h → h ≤ 8 → length s.figures ≡ nv → length (exec m c s).figures ≡ length s.figures

@@ -3,6 +3,7 @@ use Rattle.std.specs.Prelude.{ℕ, zero, suc, ◌+◌, ◌-◌, cond, List, [], 
 use Rattle.book.specs.declared.instruction.Instruction.{Instruction}
 use Rattle.book.specs.declared.instruction.Instruction.TheVariants.{Stop, Number, Figure, Clock, Operate, Store, If, Repeat, Wait, Else, End}
 use Rattle.book.specs.Looks.{matching_else}
+use Rattle.std.specs.Option.{unwrap_or}
 
 -- how many blocks are open behind an instruction, where d were before it
 abbrev pub opened : Instruction → ℕ → ℕ
@@ -46,23 +47,23 @@ abbrev pub leaves_out : Option ℕ → ℕ → ℕ
 leaves_out (Some e) end = e + 1
 leaves_out None end = end
 
--- where a run goes on from the instruction i at place p when it leaves out what follows
-abbrev pub target : List Instruction → ℕ → Instruction → ℕ
-target is p (Number z) = 0
-target is p (Figure v) = 0
-target is p Clock = 0
-target is p (Operate o) = 0
-target is p (Store v) = 0
-target is p If = leaves_out (matching_else is p) (end_behind is p)
-target is p (Repeat n) = end_behind is p
-target is p (Wait n) = 0
-target is p Else = end_behind is p
-target is p End = 0
-target is p Stop = 0
+-- where a run goes on from the instruction i at place p when it leaves out what follows; None where nothing jumps
+abbrev pub target : List Instruction → ℕ → Instruction → Option ℕ
+target is p (Number z) = None
+target is p (Figure v) = None
+target is p Clock = None
+target is p (Operate o) = None
+target is p (Store v) = None
+target is p If = Some (leaves_out (matching_else is p) (end_behind is p))
+target is p (Repeat n) = Some (end_behind is p)
+target is p (Wait n) = None
+target is p Else = Some (end_behind is p)
+target is p End = None
+target is p Stop = None
 
--- the jump from a place
+-- the jump from a place, 0 where nothing jumps
 abbrev pub jump_from : List Instruction → ℕ → ℕ
-jump_from is p = target is p (slice_index_or is p Stop)
+jump_from is p = unwrap_or (target is p (slice_index_or is p Stop)) 0
 
 -- the jumps of n places from place p on
 abbrev pub jumps_from : List Instruction → ℕ → ℕ → List ℕ

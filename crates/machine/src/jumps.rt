@@ -1,68 +1,59 @@
 // Where a run goes on when it leaves out a part.
-ghost use Rattle.std.specs.Prelude.{◌≡◌, ◌+◌, ◌^◌, ◌<◌, ◌≤◌, length};
+ghost use Rattle.std.specs.Prelude.{◌≡◌, ◌+◌, ◌^◌, ◌<◌, ◌≤◌, IfSome, length};
 ghost use Rattle.machine.specs.Depths.{Behind};
-ghost use Rattle.machine.specs.Jumps.{end_behind, jump_from};
+ghost use Rattle.machine.specs.Jumps.{end_behind, target};
 
 use book::cursor::Cursor;
 use book::instruction::Instruction;
 
-// How many blocks are open behind an instruction; none where it is the end that is looked for.
+// How many blocks are open behind an instruction; none where it is the end that is looked for. An else and a stop end
+// a look ahead for an else but not this one, so each search has a function of its own.
 fn depth_behind(instruction: Instruction, depth: usize) -> Option<usize>
     requires { depth + 1 < 2 ^ 64 }
     ensures { Behind instruction depth result }
 {
     match instruction {
         Instruction::If | Instruction::Repeat(_) => Some(depth + 1),
-        Instruction::End => { if depth == 0 { None } else { Some(depth - 1) } }
-        Instruction::Number(_)
-        | Instruction::Figure(_)
-        | Instruction::Clock
-        | Instruction::Operate(_)
-        | Instruction::Store(_)
-        | Instruction::Wait(_)
-        | Instruction::Else
-        | Instruction::Stop => Some(depth),
+        Instruction::End => depth.checked_sub(1),
+        _ => Some(depth),
     }
 }
 
 // The end of the block that the instruction at a place opens or goes on with.
 fn end_behind(code: &[Instruction], place: usize) -> usize
-    requires { (place < length code.now) × (length code.now ≤ 256) }
+    requires { place < length code.now }
     ensures end { result ≡ end_behind code.now place }
     ensures within { result ≤ length code.now }
 {
-    let mut depth = 0usize;
-    for at in place + 1..code.len() {
-        match depth_behind(code[at], depth) {
+    let mut depth = 0;
+    for (passed, instruction) in code[place + 1..].iter().enumerate() {
+        match depth_behind(*instruction, depth) {
             Some(behind) => depth = behind,
-            None => return at,
+            None => return place + 1 + passed,
         }
     }
     code.len()
 }
 
-// The jump from a place: 0 where nothing jumps.
-pub(crate) fn jump_from(code: &[Instruction], place: usize) -> usize
-    requires { (place < length code.now) × (length code.now ≤ 256) }
-    ensures to { result ≡ jump_from code.now place }
-    ensures within { result ≤ 256 }
+// The jump from an instruction at a place; none where nothing jumps.
+pub(crate) fn jump_from(
+    code: &[Instruction],
+    place: usize,
+    instruction: Instruction,
+) -> Option<usize>
+    requires { place < length code.now }
+    ensures to { result ≡ target code.now place instruction }
+    ensures within { IfSome result (λ jump. jump ≤ length code.now) }
 {
-    match code[place] {
+    match instruction {
         Instruction::If => {
             let mut cursor = Cursor::new(place);
             match cursor.matching_else(code) {
-                Some(other) => other + 1,
-                None => end_behind(code, place),
+                Some(other) => Some(other + 1),
+                None => Some(end_behind(code, place)),
             }
         }
-        Instruction::Repeat(_) | Instruction::Else => end_behind(code, place),
-        Instruction::Number(_)
-        | Instruction::Figure(_)
-        | Instruction::Clock
-        | Instruction::Operate(_)
-        | Instruction::Store(_)
-        | Instruction::Wait(_)
-        | Instruction::End
-        | Instruction::Stop => 0,
+        Instruction::Repeat(_) | Instruction::Else => Some(end_behind(code, place)),
+        _ => None,
     }
 }

@@ -2,6 +2,7 @@
 #![tactic(auto)]
 
 mod events;
+pub mod fault;
 mod jumps;
 pub mod program;
 mod ready;

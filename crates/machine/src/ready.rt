@@ -11,14 +11,15 @@ use book::instruction::Instruction;
 use reader::rulebook::Book;
 
 // The jumps of all places, in the first places of the row.
-fn jumps_of(code: &[Instruction]) -> [u16; 256]
-    requires { length code.now ≤ 256 }
+fn jumps_of(book: &Book) -> [u16; 256]
     ensures long { length result ≡ 256 }
-    ensures items { take (length code.now) result ≡ jumps_from code.now (length code.now) 0 }
+    ensures items { take (length (said book.now).code) result ≡ jumps_from (said book.now).code (length (said book.now).code) 0 }
 {
-    let mut row = [0u16; 256];
-    for place in 0..code.len() {
-        row[place] = jump_from(code, place) as u16;
+    let code = book.code();
+    let mut row = [0; 256];
+    // By place: over the row's own `iter_mut`, taken as far as the code goes, the proof did not close.
+    for (place, instruction) in code.iter().enumerate() {
+        row[place] = jump_from(code, place, *instruction).unwrap_or(0) as u16;
     }
     row
 }
@@ -28,7 +29,7 @@ impl Program {
     pub fn new(book: Book) -> Self
         ensures { said result.book ≡ said book }
     {
-        let jumps = jumps_of(book.code());
+        let jumps = jumps_of(&book);
         Program { book, jumps }
     }
 
@@ -52,11 +53,11 @@ fn start_in(code: &[Instruction], event: u32) -> Option<usize>
     ensures { result ≡ event_at event 0 code.now }
 {
     let mut left = event;
-    for place in 0..code.len() {
+    for (place, instruction) in code.iter().enumerate() {
         if left == 0 {
             return Some(place);
         }
-        if is_stop(code[place]) {
+        if is_stop(*instruction) {
             left -= 1;
         }
     }

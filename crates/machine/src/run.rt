@@ -1,5 +1,6 @@
 // Running: one loop over the instructions, forward jumps for ifs, and a call for each turn of a repeat.
-ghost use Rattle.std.specs.Prelude.{◌≡◌, ◌≤◌, length, drop};
+ghost use Rattle.std.specs.Prelude.{◌≡◌, ◌<◌, ◌≤◌, length, drop};
+ghost use Rattle.machine.specs.Jumps.{jump_from};
 ghost use Rattle.reader.specs.Books.{said};
 ghost use Rattle.book.specs.Trees.{here, parse};
 ghost use Rattle.book.specs.declared.instruction.Instruction.TheVariants.{Repeat};
@@ -13,6 +14,15 @@ use meter::meter::Meter;
 use steps::machine::Machine;
 
 impl Program {
+    // The place where a run goes on that leaves out what follows this one.
+    fn jump(&self, place: usize) -> usize
+        requires { place < length (said self.now.book).code }
+        ensures to { result ≡ jump_from (said self.now.book).code place }
+        ensures within { result ≤ length (said self.now.book).code }
+    {
+        usize::from(self.jumps[place])
+    }
+
     // Runs the stretch that starts at a place, up to what closes it.
     #[cycle(run_from_take_turns)]
     pub(crate) fn run_from<M: Meter>(&self, meter: &M, from: usize, machine: &mut Machine)
@@ -22,6 +32,7 @@ impl Program {
         let code = self.book.code();
         let mut place = from;
         let mut ifs = 0usize;
+        // A run jumps, so its place moves by hand.
         while place < code.len() {
             let instruction = code[place];
             match instruction {
@@ -54,15 +65,15 @@ impl Program {
                     if machine.test(meter) {
                         place += 1;
                     } else {
-                        place = self.jumps[place] as usize;
+                        place = self.jump(place);
                     }
                 }
                 Instruction::Repeat(count) => {
                     self.take_turns(meter, count, place + 1, machine);
                     machine.leave();
-                    place = self.jumps[place] as usize + 1;
+                    place = self.jump(place) + 1;
                 }
-                Instruction::Else => place = self.jumps[place] as usize,
+                Instruction::Else => place = self.jump(place),
                 Instruction::End => {
                     if ifs == 0 {
                         return;

@@ -1,7 +1,7 @@
 // The card, a meter with a fixed charge for each instruction code.
 ghost use Rattle.std.specs.Prelude.{◌≡◌, ℕ, ◌<◌, ◌≤◌, length, slice_index};
 
-pub mod filling;
+mod filling;
 
 #[derive(Clone, Copy)]
 pub struct Card {

@@ -3,6 +3,11 @@ ghost use Rattle.meter.specs.Digits.{digit};
 
 use crate::meter::{Meter, is_instruction};
 
+// The codes whose ticks depend on the operands.
+const MULTIPLY: u8 = 6;
+
+const DIVIDE: u8 = 7;
+
 #[derive(Clone, Copy)]
 pub struct Digit;
 
@@ -13,15 +18,14 @@ impl Meter for Digit {
 
     fn charge(&self, code: u8, first: i32, second: i32) -> u32 {
         match code {
-            6 => 1 + second.count_ones(),
-            7 => 1 + (32 - first.leading_zeros()),
-            _ if is_instruction(code) => 1,
-            _ => 0,
+            MULTIPLY => 1 + second.count_ones(),
+            DIVIDE => 1 + (32 - first.leading_zeros()),
+            _ => u32::from(is_instruction(code)),
         }
     }
 
     fn steady(&self, code: u8) -> bool {
-        code != 6 && code != 7
+        !matches!(code, MULTIPLY | DIVIDE)
     }
 
     fn largest_charge(&self) -> u32 {

@@ -1,3 +1,2 @@
 mod Blocks
-mod Heaviest
 mod Places

@@ -1,5 +1,5 @@
 -- One instruction of a scan, and the instructions before it.
-use Rattle.std.proofs.Common.{◌≡◌, ℕ, suc, ◌+◌, ◌-◌, ◌*◌, ◌<◌, Bool, true, false, cond, List, [], ◌∷◌, ◌++◌, length, get_or, take, set, ℤ, Some, None, Ok, Err, Option, Result, sym, refl, ap, ◌∙◌, arith}
+use Rattle.std.proofs.Common.{◌≡◌, ℕ, suc, ◌+◌, ◌-◌, ◌*◌, ◌<◌, Bool, true, false, cond, List, [], ◌∷◌, ◌++◌, length, get_or, take, set, Some, None, Ok, Err, Option, Result, sym, refl, ap, ◌∙◌, arith}
 use Rattle.book.specs.Codes.{decoded}
 use Rattle.refusal.specs.declared.reader.ReaderFault.{ReaderFault}
 use Rattle.refusal.specs.declared.reader.ReaderFault.TheVariants.{Height, Nesting}
@@ -28,23 +28,22 @@ raws_more bs n at from i h =
     let fewer : n - i ≡ suc (n - (i + 1)) = omega arith in
     let on : at + i + 1 ≡ at + (i + 1) = omega arith in
     let up : from + 4 * i + 4 ≡ from + 4 * (i + 1) = omega arith in
-    let r : Raw = record { code = get_or bs (at + i) 0; argument = long bs (from + 4 * i) } in
-    ap (λ k. raws k (at + i) (from + 4 * i) bs) fewer ∙ ap (λ k. r ∷ raws (n - (i + 1)) k (from + 4 * i + 4) bs) on ∙ ap (λ k. r ∷ raws (n - (i + 1)) (at + (i + 1)) k bs) up
+    rw (fewer, on, up)
 
 -- a scan of nc instructions whose codes begin at one place and whose arguments begin at another, at instruction i
-module _ (nv nc at from : ℕ) (bytes : List ℕ) (row : List Instruction) (i h : ℕ) (bs : List Block) (z : ℤ) (lt : i < nc) (is : z ≡ long bytes (from + 4 * i)) where
+module _ (nv nc at from : ℕ) (bytes : List ℕ) (row : List Instruction) (i h : ℕ) (bs : List Block) (lt : i < nc) where
   rest : List Raw
   rest = raws (nc - (i + 1)) (at + (i + 1)) (from + 4 * (i + 1)) bytes
 
   next : Instruction → Result (List Instruction) ReaderFault
   next x = scan nv (i + 1) (height_after x h) (blocks_after x bs) rest
 
-  now : scan nv i h bs (raws (nc - i) (at + i) (from + 4 * i) bytes) ≡ placed i h bs (decoded nv (get_or bytes (at + i) 0) z) next
+  now : scan nv i h bs (raws (nc - i) (at + i) (from + 4 * i) bytes) ≡ placed i h bs (decoded nv (get_or bytes (at + i) 0) (long bytes (from + 4 * i))) next
   unfolding rest next
-  now = ap (λ rs. scan nv i h bs rs) (raws_more bytes nc at from i lt) ∙ ap (λ y. placed i h bs (decoded nv (get_or bytes (at + i) 0) y) next) (sym is)
+  now = ap (λ rs. scan nv i h bs rs) (raws_more bytes nc at from i lt)
 
   -- an instruction that fits goes to the ones before
-  pub scan_on : (x : Instruction) (h' : ℕ) (bs' : List Block) (all : Result (List Instruction) ReaderFault) → i < length row → Placed nv (get_or bytes (at + i) 0) z i h bs (Ok x) h' bs' → following (take i row) (scan nv i h bs (raws (nc - i) (at + i) (from + 4 * i) bytes)) ≡ all → following (take (i + 1) (set row i x)) (scan nv (i + 1) h' bs' (raws (nc - (i + 1)) (at + (i + 1)) (from + 4 * (i + 1)) bytes)) ≡ all
+  pub scan_on : (x : Instruction) (h' : ℕ) (bs' : List Block) (all : Result (List Instruction) ReaderFault) → i < length row → Placed nv (get_or bytes (at + i) 0) (long bytes (from + 4 * i)) i h bs (Ok x) h' bs' → following (take i row) (scan nv i h bs (raws (nc - i) (at + i) (from + 4 * i) bytes)) ≡ all → following (take (i + 1) (set row i x)) (scan nv (i + 1) h' bs' (raws (nc - (i + 1)) (at + (i + 1)) (from + 4 * (i + 1)) bytes)) ≡ all
   unfolding rest next
   scan_on x h' bs' all l p inv =
       following_more row i x (scan nv (i + 1) h' bs' rest) l
@@ -54,5 +53,5 @@ module _ (nv nc at from : ℕ) (bytes : List ℕ) (row : List Instruction) (i h 
       ∙ inv
 
   -- one that does not ends the scan
-  pub scan_off : (f : ReaderFault) (h' : ℕ) (bs' : List Block) (all : Result (List Instruction) ReaderFault) → Placed nv (get_or bytes (at + i) 0) z i h bs (Err f) h' bs' → following (take i row) (scan nv i h bs (raws (nc - i) (at + i) (from + 4 * i) bytes)) ≡ all → Err f ≡ all
+  pub scan_off : (f : ReaderFault) (h' : ℕ) (bs' : List Block) (all : Result (List Instruction) ReaderFault) → Placed nv (get_or bytes (at + i) 0) (long bytes (from + 4 * i)) i h bs (Err f) h' bs' → following (take i row) (scan nv i h bs (raws (nc - i) (at + i) (from + 4 * i) bytes)) ≡ all → Err f ≡ all
   scan_off f h' bs' all p inv = ap (following (take i row)) (sym (now ∙ p next)) ∙ inv

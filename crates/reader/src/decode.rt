@@ -1,5 +1,5 @@
 // One instruction from its code and its argument.
-ghost use Rattle.std.specs.Prelude.{◌≡◌, ◌<◌, ◌≤◌};
+ghost use Rattle.std.specs.Prelude.{◌≡◌, ◌≤◌};
 ghost use Rattle.book.specs.Codes.{alone as alone_of, decoded, natural_below};
 
 use book::instruction::{Instruction, Operation};
@@ -8,11 +8,9 @@ use book::instruction::{Instruction, Operation};
 fn natural(limit: u16, argument: i32) -> Option<u16>
     ensures { result ≡ natural_below limit argument }
 {
-    if argument >= 0 && argument < limit as i32 {
-        Some(argument as u16)
-    } else {
-        None
-    }
+    u16::try_from(argument)
+        .ok()
+        .filter(|number| *number < limit)
 }
 
 // The number of one of the book's figures.
@@ -20,28 +18,26 @@ fn figure(figures: usize, argument: i32) -> Option<u8>
     requires { figures ≤ 32 }
     ensures { result ≡ natural_below figures argument }
 {
-    Some(natural(figures as u16, argument)? as u8)
+    u8::try_from(natural(figures as u16, argument)?).ok()
 }
 
 // An instruction that has 0 for its argument.
 fn alone(instruction: Instruction, argument: i32) -> Option<Instruction>
     ensures { result ≡ alone_of instruction argument }
 {
-    if argument == 0 {
-        Some(instruction)
-    } else {
-        None
-    }
+    (argument == 0).then_some(instruction)
 }
 
 // The instruction that a code and an argument are, if they are one.
+// The operations stand among the codes, as rows like the others: a `TryFrom` of their own would be these six rows
+// again, with an error that is dropped here.
 pub(crate) fn decode(figures: usize, code: u8, argument: i32) -> Option<Instruction>
     requires { figures ≤ 32 }
     ensures { result ≡ decoded figures code argument }
 {
     match code {
         1 => Some(Instruction::Number(argument)),
-        2 => Some(Instruction::Figure(figure(figures, argument)?)),
+        2 => figure(figures, argument).map(Instruction::Figure),
         3 => alone(Instruction::Clock, argument),
         4 => alone(Instruction::Operate(Operation::Add), argument),
         5 => alone(Instruction::Operate(Operation::Subtract), argument),
@@ -49,10 +45,10 @@ pub(crate) fn decode(figures: usize, code: u8, argument: i32) -> Option<Instruct
         7 => alone(Instruction::Operate(Operation::Divide), argument),
         8 => alone(Instruction::Operate(Operation::Less), argument),
         9 => alone(Instruction::Operate(Operation::Equal), argument),
-        10 => Some(Instruction::Store(figure(figures, argument)?)),
+        10 => figure(figures, argument).map(Instruction::Store),
         11 => alone(Instruction::If, argument),
-        12 => Some(Instruction::Repeat(natural(1001, argument)?)),
-        13 => Some(Instruction::Wait(natural(1001, argument)?)),
+        12 => natural(1001, argument).map(Instruction::Repeat),
+        13 => natural(1001, argument).map(Instruction::Wait),
         14 => alone(Instruction::Else, argument),
         15 => alone(Instruction::End, argument),
         16 => alone(Instruction::Stop, argument),

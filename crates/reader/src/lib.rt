@@ -4,6 +4,7 @@
 
 mod decode;
 mod fields;
+mod layout;
 mod parts;
 pub mod reader;
 pub mod rulebook;

@@ -1,5 +1,4 @@
-// The book that the reader makes: arrays of the largest sizes, with the sizes in use beside them.
-// Only the reader makes one, so that every book is well formed.
+// The book that the reader makes. Only the reader makes one, so that every book is well formed.
 ghost use Rattle.std.specs.Prelude.{◌≡◌, ◌≤◌, true, length, take};
 ghost use Rattle.book.specs.Reads.{sound};
 
@@ -10,6 +9,8 @@ pub struct Book {
     pub(crate) figures: usize,
     pub(crate) count: usize,
     pub(crate) clock: u16,
+    // Arrays of the largest sizes, in use up to the sizes beside them: nothing here allocates, and a book is copied.
+    // The levels and the start amounts are rows apart, since each is lent as a slice.
     pub(crate) levels: [u16; 32],
     pub(crate) starts: [i32; 32],
     pub(crate) code: [Instruction; 256],

@@ -3,6 +3,7 @@
 ghost use Rattle.book.specs.Reads.{blocks_after, fits_height, fits_nesting, height_after, step_fault};
 ghost use Rattle.stack.specs.Stacks.{held};
 ghost use Rattle.std.specs.Prelude.{◌≡◌, ◌≤◌, true, [], length};
+ghost use Rattle.std.specs.Result.{result_err};
 
 use book::block::Block;
 use book::instruction::Instruction;
@@ -54,26 +55,23 @@ impl Scan {
             | Instruction::Store(_)
             | Instruction::Wait(_) => true,
             Instruction::If | Instruction::Repeat(_) => self.blocks.height() < 8,
-            Instruction::Else => match self.blocks.top() {
-                Some(Block::FirstPart) => true,
-                Some(Block::SecondPart) | Some(Block::Turns) | None => false,
-            },
+            Instruction::Else => matches!(self.blocks.top(), Some(Block::FirstPart)),
             Instruction::End => self.blocks.height() > 0,
             Instruction::Stop => self.blocks.height() == 0,
         }
     }
 
     // The fault of an instruction at this place, if it has one.
-    pub(crate) fn fault(&self, instruction: Instruction, place: u32) -> Option<ReaderFault>
-        ensures { result ≡ step_fault place self.now.height (held self.now.blocks) instruction }
+    pub(crate) fn check(&self, instruction: Instruction, place: u32) -> Result<(), ReaderFault>
+        ensures { result_err result ≡ step_fault place self.now.height (held self.now.blocks) instruction }
     {
         if !fits_height(instruction, self.height) {
-            return Some(ReaderFault::Height(place));
+            return Err(ReaderFault::Height(place));
         }
         if !self.fits_nesting(instruction) {
-            return Some(ReaderFault::Nesting(place));
+            return Err(ReaderFault::Nesting(place));
         }
-        None
+        Ok(())
     }
 
     // Goes past an instruction that has no fault.

@@ -3,6 +3,7 @@ ghost use Rattle.std.specs.Prelude.{◌≡◌, ◌+◌, ◌≤◌, [], length, n
 ghost use Rattle.book.specs.Reads.{stops_last};
 ghost use Rattle.book.specs.Weighs.{capped, closing_fault, factor as factor_of, factors_after, heaviest};
 ghost use Rattle.stack.specs.Stacks.{held};
+ghost use Rattle.std.specs.Result.{result_err};
 
 use book::codes::is_stop;
 use book::instruction::Instruction;
@@ -80,9 +81,9 @@ fn first_heavy(code: &[Instruction]) -> Option<u32>
     ensures { result ≡ heaviest 0 0 0 [] code.now }
 {
     let mut event = Weighing::new(0);
-    for place in 0..code.len() {
-        event.add(code[place]);
-        if is_stop(code[place]) {
+    for (place, instruction) in code.iter().enumerate() {
+        event.add(*instruction);
+        if is_stop(*instruction) {
             if event.heavy() {
                 return Some(event.start);
             }
@@ -96,22 +97,16 @@ fn first_heavy(code: &[Instruction]) -> Option<u32>
 fn stops_last(code: &[Instruction]) -> bool
     ensures { result ≡ stops_last code.now }
 {
-    if code.len() == 0 {
-        return true;
-    }
-    is_stop(code[code.len() - 1])
+    code.last().is_none_or(|instruction| is_stop(*instruction))
 }
 
-// What is wrong with code of which each instruction is right: no stop at its end, or a heavy event.
-pub(crate) fn closing_fault(code: &[Instruction]) -> Option<ReaderFault>
+// Checks the end of code of which each instruction is right: a stop stands last, and no event is heavy.
+pub(crate) fn check_end(code: &[Instruction]) -> Result<(), ReaderFault>
     requires { length code.now ≤ 256 }
-    ensures { result ≡ closing_fault code.now }
+    ensures { result_err result ≡ closing_fault code.now }
 {
     if !stops_last(code) {
-        return Some(ReaderFault::Nesting(code.len() as u32));
+        return Err(ReaderFault::Nesting(code.len() as u32));
     }
-    match first_heavy(code) {
-        Some(start) => Some(ReaderFault::Weight(start)),
-        None => None,
-    }
+    first_heavy(code).map_or(Ok(()), |start| Err(ReaderFault::Weight(start)))
 }

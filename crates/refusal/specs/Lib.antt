@@ -1,3 +1,4 @@
+pub mod Layers
 pub mod Makers
 pub mod Readers
 pub mod Checks

@@ -7,13 +7,15 @@ ghost use Rattle.std.specs.Prelude.{◌≡◌};
 use crate::reader::ReaderFault;
 use crate::{Layer, Refusal};
 
-// A check's fault. A place is the number of an instruction, but for levels.
+// A check's fault. A place is the number of an instruction.
 #[derive(Clone, Copy, PartialEq, Eq, Debug)]
 pub enum CheckFault {
     // the bytes are no book
     Reader(ReaderFault),
-    // a level that the scale does not know: at 0 the clock's, at 1 + v that of figure v
-    Level(u32),
+    // the scale does not know the clock's level
+    ClockLevel,
+    // the scale does not know the level of this figure
+    FigureLevel(u8),
     // a charge that varies with what the clock must not show
     Charge(u32),
     // an amount stored in a figure that is not at or above its level
@@ -24,14 +26,14 @@ pub enum CheckFault {
     Parts(u32),
 }
 
-impl CheckFault {
-    // The number, layer and place of this fault.
-    pub fn refusal(self) -> Refusal
-        ensures { result ≡ check_refusal self }
-    {
-        let (number, place) = match self {
-            CheckFault::Reader(fault) => return fault.refusal(),
-            CheckFault::Level(place) => (7, place),
+impl From<CheckFault> for Refusal {
+    ghost from_gives = { λ fault refusal. refusal ≡ check_refusal fault };
+
+    fn from(fault: CheckFault) -> Refusal {
+        let (number, place) = match fault {
+            CheckFault::Reader(fault) => return fault.into(),
+            CheckFault::ClockLevel => (7, 0),
+            CheckFault::FigureLevel(figure) => (7, 1 + u32::from(figure)),
             CheckFault::Charge(place) => (8, place),
             CheckFault::Direct(place) => (9, place),
             CheckFault::Implicit(place) => (10, place),

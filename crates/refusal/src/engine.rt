@@ -17,25 +17,27 @@ pub enum EngineFault {
     NoSuch(u32),
     // a level that the scale does not know
     UnknownLevel(u16),
-    // the level of this figure is not at or below the one given; 32 stands for the clock
+    // the level of this figure is not at or below the one given
     Hidden(u32),
+    // the clock's level is not at or below the one given
+    HiddenClock,
     SlipOut,
     NotTheSlip,
     TooManyOpenings,
     SameFigure(u32),
 }
 
-impl EngineFault {
-    // The number, layer and place of this fault.
-    pub fn refusal(self) -> Refusal
-        ensures { result ≡ engine_refusal self }
-    {
-        let (number, place) = match self {
-            EngineFault::Check(fault) => return fault.refusal(),
+impl From<EngineFault> for Refusal {
+    ghost from_gives = { λ fault refusal. refusal ≡ engine_refusal fault };
+
+    fn from(fault: EngineFault) -> Refusal {
+        let (number, place) = match fault {
+            EngineFault::Check(fault) => return fault.into(),
             EngineFault::NoBook => (12, 0),
             EngineFault::NoSuch(number) => (13, number),
             EngineFault::UnknownLevel(level) => (14, u32::from(level)),
             EngineFault::Hidden(figure) => (15, figure),
+            EngineFault::HiddenClock => (15, 32),
             EngineFault::SlipOut => (16, 0),
             EngineFault::NotTheSlip => (17, 0),
             EngineFault::TooManyOpenings => (18, 0),

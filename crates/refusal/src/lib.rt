@@ -7,7 +7,10 @@ pub mod engine;
 pub mod reader;
 
 ghost use Rattle.refusal.specs.Makers.{maker_refusal};
-ghost use Rattle.std.specs.Prelude.{◌≡◌};
+ghost use Rattle.refusal.specs.Layers.{layer_name};
+ghost use Rattle.std.specs.Prelude.{◌≡◌, Some};
+
+use std::fmt;
 
 // The part of the system that refuses.
 #[derive(Clone, Copy, PartialEq, Eq, Debug)]
@@ -18,7 +21,29 @@ pub enum Layer {
     Maker,
 }
 
-// A refusal as a caller sees it.
+impl Layer {
+    // The word for this layer.
+    pub fn name(self) -> &'static str
+        ensures { result.now ≡ layer_name self }
+    {
+        match self {
+            Layer::Reader => "reader",
+            Layer::Check => "check",
+            Layer::Engine => "engine",
+            Layer::Maker => "maker",
+        }
+    }
+}
+
+impl fmt::Display for Layer {
+    ghost output = { λ layer. Some (layer_name layer) };
+
+    fn fmt<W: fmt::Write>(&self, f: &mut fmt::Formatter<W>) -> fmt::Result {
+        f.write_str(self.name())
+    }
+}
+
+// A refusal as a caller sees it. Callers, printed lines and C know it by its number, so that is a number here.
 #[derive(Clone, Copy, PartialEq, Eq, Debug)]
 pub struct Refusal {
     pub number: u8,
@@ -35,11 +60,10 @@ pub enum MakerFault {
     LineBuffer,
 }
 
-impl MakerFault {
-    // The number, layer and place of this fault.
-    pub fn refusal(self) -> Refusal
-        ensures { result ≡ maker_refusal self }
-    {
+impl From<MakerFault> for Refusal {
+    ghost from_gives = { λ fault refusal. refusal ≡ maker_refusal fault };
+
+    fn from(_fault: MakerFault) -> Refusal {
         Refusal {
             number: 20,
             layer: Layer::Maker,

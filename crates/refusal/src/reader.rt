@@ -21,12 +21,11 @@ pub enum ReaderFault {
     Weight(u32),
 }
 
-impl ReaderFault {
-    // The number, layer and place of this fault.
-    pub fn refusal(self) -> Refusal
-        ensures { result ≡ reader_refusal self }
-    {
-        let (number, place) = match self {
+impl From<ReaderFault> for Refusal {
+    ghost from_gives = { λ fault refusal. refusal ≡ reader_refusal fault };
+
+    fn from(fault: ReaderFault) -> Refusal {
+        let (number, place) = match fault {
             ReaderFault::Length => (1, 0),
             ReaderFault::TooManyFigures => (2, 0),
             ReaderFault::TooManyInstructions => (2, 2),

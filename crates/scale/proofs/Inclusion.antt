@@ -1,9 +1,9 @@
 -- Sets of departments as codes: inclusion department by department, and its laws.
-use Rattle.std.proofs.Common.{◌≡◌, ℕ, zero, suc, ◌+◌, ◌*◌, ◌/◌, ◌%◌, ◌^◌, ◌<◌, max, Bool, true, false, not, ◌&&◌, ◌||◌, eqb, ltb, Decides, sym, refl, ap, ◌∙◌, ⊎_elim, pow-suc, div-one, add-one, arith}
+use Rattle.std.proofs.Common.{◌≡◌, ℕ, zero, suc, ◌*◌, ◌/◌, ◌%◌, ◌^◌, ◌<◌, max, Bool, true, false, not, ◌&&◌, ◌||◌, eqb, ltb, Decides, sym, refl, ap, ◌∙◌, ⊎_elim, pow-suc, div-one, arith}
 use native.Mathlib.Nat.{zero-div}
 use lib.Bits.{bit_or, or_step}
 use Rattle.std.proofs.lemmas.Nat.{or_lt, or_shr, shr-shr, pow_pos}
-use Rattle.std.proofs.lemmas.Bool.{cases_Bool, cond-true, cond-false, and_parts, and_from, and_left, and_right, or_left, or_right, or_cases, ltb-true, lt-ltb, eqb-true, true≢false}
+use Rattle.std.proofs.lemmas.Bool.{cond-true, cond-false, and_parts, and_from, and_left, and_right, or_left, or_right, or_cases, ltb-true, lt-ltb, eqb-true, eq-eqb}
 use Rattle.std.proofs.lemmas.Bool.Decides.{Decides-below_and, nat_tests}
 use Rattle.scale.specs.Scales.{Lawful}
 use Rattle.scale.specs.Sets.{has, within, departments}
@@ -20,16 +20,6 @@ pub within_decides : (d a b : ℕ) → Decides (within d a b) ((k : ℕ) → k <
 within_decides d a b =
     Decides-below_and (λ k. not (has k a) || has k b) (λ k. has k a ≡ true → has k b ≡ true) (λ k. within k a b)
     (λ k. passes (has k a) (has k b)) refl (λ _. refl) d
-
--- a department that is in the first set alone refutes inclusion
-pub within_missed : (d k a b : ℕ) → k < d → has k a ≡ true → has k b ≡ false → within d a b ≡ false
-within_missed d k a b lt in-a out-b =
-    ⊎_elim (λ e. absurd (true≢false (sym ((within_decides d a b).0 e k lt in-a) ∙ out-b))) (λ e. e) (cases_Bool (within d a b))
-
--- the next department does not refute inclusion
-pub within_more : (k a b : ℕ) → within k a b ≡ true → (has k a ≡ true → has k b ≡ true) → within (k + 1) a b ≡ true
-within_more k a b e h =
-    rw add-one (and_from (not (has k a) || has k b) (within k a b) ((passes (has k a) (has k b)).1 h) e)
 
 -- ---- sets with the same departments are one
 
@@ -92,6 +82,19 @@ same_test : (x y : Bool) → (x ≡ true → y ≡ true) → (y ≡ true → x �
 same_test true y f g = sym (f refl)
 same_test false true f g = g refl
 same_test false false f g = refl
+
+-- what is in the second set where it is in the first adds nothing to it
+absorbed : (x y : Bool) → (x ≡ true → y ≡ true) → (x || y) ≡ y
+absorbed true y f = sym (f refl)
+absorbed false y f = refl
+
+-- a set is within another exactly if the union of both is the other
+pub union_decides : (d a b : ℕ) → a < 2 ^ d → b < 2 ^ d → eqb (bit_or a b) b ≡ within d a b
+union_decides d a b p q =
+    same_test (eqb (bit_or a b) b) (within d a b)
+    (λ e. (within_decides d a b).1 (λ k _ h. sym (ap (has k) (eqb-true (bit_or a b) b e)) ∙ has_or k a b ∙ or_left (has k a) (has k b) h))
+    (λ e. let inside = (within_decides d a b).0 e in
+    eq-eqb (bit_or a b) b (same_set d (bit_or a b) b (or_lt d a b p q) q (λ k lt. has_or k a b ∙ absorbed (has k a) (has k b) (inside k lt))))
 
 -- no department is in the empty set
 none_has : (k : ℕ) → has k 0 ≡ true → ⊥

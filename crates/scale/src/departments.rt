@@ -1,7 +1,7 @@
 // The scale of departments: a level is a set of departments, and a larger set is a higher level.
 ghost use Rattle.std.specs.Prelude.{◌≤◌};
 
-pub mod sets;
+mod sets;
 
 #[derive(Clone, Copy)]
 pub struct Departments {

@@ -1,7 +1,7 @@
 // The ladder, a scale whose levels are ranks in one line, numbered from the lowest.
 ghost use Rattle.std.specs.Prelude.{◌≤◌};
 
-pub mod rungs;
+mod rungs;
 
 #[derive(Clone, Copy)]
 pub struct Ladder {

@@ -1,9 +1,5 @@
-pub mod Bytes
 pub mod Chooses
-pub mod Cuts
-pub mod Numerals
 pub mod Plays
-pub mod Readings
 pub mod Spellings
 pub mod Splits
 pub mod Ties

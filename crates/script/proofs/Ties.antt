@@ -1,45 +1,39 @@
 -- What is held stays the slip that is out, call by call.
-use Rattle.std.proofs.Common.{◌≡◌, ℕ, Bool, true, false, cond, ℤ, Some, None, Ok, Err, Option, Result, sym, refl, ap, subst, arith}
-use Rattle.script.specs.Desks.{settled, settled_by}
+use Rattle.std.proofs.Common.{◌≡◌, ℕ, Bool, true, false, cond, ◌⊎◌, Some, None, Ok, Err, Option, Result, refl, ap, ◌∙◌, subst, inl, inr}
+use Rattle.book.specs.Reads.{BookModel}
+use Rattle.refusal.specs.declared.check.CheckFault.{CheckFault}
 use Rattle.script.specs.Held.{agrees, left_held}
-use Rattle.engine.specs.Calls.{after, answer, answering, next}
+use Rattle.engine.specs.Calls.{after, answering, next, public_after, public_loaded}
+use Rattle.engine.specs.declared.engine.Engine.{Engine}
 use Rattle.refusal.specs.declared.engine.EngineFault.{EngineFault}
 use Rattle.refusal.specs.declared.engine.EngineFault.TheVariants.{NotTheSlip}
 use Rattle.engine.specs.declared.slip.Slip.{Slip}
-use Rattle.engine.specs.Models.{Answer, refused, loaded, accepted, amount, time, slip, counts, EngineModel, Paper, ask_slip, carry, open_slip, put, refusal, run, same_paper, unless, withdraw}
-use Rattle.engine.specs.Seen.{open_answer, paper_of}
+use Rattle.engine.specs.Models.{Answer, Call, open_slip, carry, withdraw, EngineModel, Paper, Public, ask_slip, refusal, same_paper, unless}
+use Rattle.engine.specs.Seen.{engine_of, IsStep, open_answer, paper_of}
 use Rattle.meter.specs.Meters.{MeterModel}
 use Rattle.scale.specs.Scales.{ScaleModel}
-use Rattle.std.proofs.lemmas.Bool.{and_from, and_parts, eq-eqb, eqb-true}
+use Rattle.std.proofs.lemmas.Bool.{and_from, and_parts, eq-eqb, eqb-true, false≢true}
 
 -- a slip has its own numbers
-pub same_self : (p : Paper) → same_paper p p ≡ true
+same_self : (p : Paper) → same_paper p p ≡ true
 same_self p =
     and_from _ _ (eq-eqb p.holder _ refl) (and_from _ _ (eq-eqb p.from _ refl) (and_from _ _ (eq-eqb p.to _ refl) (eq-eqb p.number _ refl)))
 
-paper : ℕ → ℕ → ℕ → ℕ → Paper
-paper h a b n = record { holder = h; from = a; to = b; number = n }
-
 -- slips with the same numbers are the same
-pub same_paper_lem : (p q : Paper) → same_paper p q ≡ true → p ≡ q
-unfolding paper
+same_paper_lem : (p q : Paper) → same_paper p q ≡ true → p ≡ q
 same_paper_lem p q t =
     let h = and_parts _ _ t in
     let a = and_parts _ _ h.1 in
     let b = and_parts _ _ a.1 in
-    let e0 = eqb-true p.holder q.holder h.0 in
-    let e1 = eqb-true p.from q.from a.0 in
-    let e2 = eqb-true p.to q.to b.0 in
-    let e3 = eqb-true p.number q.number b.1 in
-    let e : paper p.holder p.from p.to p.number ≡ paper q.holder q.from q.to q.number = cc in e
+    let holder = eqb-true p.holder q.holder h.0 in
+    let from = eqb-true p.from q.from a.0 in
+    let to = eqb-true p.to q.to b.0 in
+    let number = eqb-true p.number q.number b.1 in
+    λ i. record { holder = holder i; from = from i; to = to i; number = number i }
 
 pub agrees_self : (o : Option Paper) → agrees o o ≡ true
 agrees_self None = refl
 agrees_self (Some p) = same_self p
-
--- false is not true
-never : {A : Type 0} → false ≡ true → A
-never e = let z : ◌≡◌ {A = ℕ} 0 1 = ap (λ (b : Bool). cond b 1 0) e in absurd (omega arith)
 
 -- the same of equals
 pub agrees_by : (a b c d : Option Paper) → a ≡ c → b ≡ d → agrees c d ≡ true → agrees a b ≡ true
@@ -50,42 +44,13 @@ abbrev pub out_opened : Option Paper → Result Slip EngineFault → Option Pape
 out_opened o (Ok x) = Some (paper_of x.numbers)
 out_opened o (Err f) = o
 
--- the slip in an answer
-abbrev paper_in : Paper → Answer → Paper
-paper_in d (refused f) = d
-paper_in d (loaded n) = d
-paper_in d accepted = d
-paper_in d (amount a) = d
-paper_in d (time t) = d
-paper_in d (slip p) = p
-paper_in d (counts a b c) = d
-
--- 1 of a refusal
-abbrev refusing : Answer → ℕ
-refusing (refused f) = 1
-refusing (loaded n) = 0
-refusing accepted = 0
-refusing (amount a) = 0
-refusing (time t) = 0
-refusing (slip p) = 0
-refusing (counts a b c) = 0
-
 -- an opening that is accepted leaves its slip out, and one that is refused leaves what was out
 opened_at : (s : ScaleModel) (m : MeterModel) (e : EngineModel) (h a b : ℕ) (f : Option EngineFault) (r : Result Slip EngineFault) →
     open_answer r ≡ answering s m f e (open_slip h a b) → (after s m f e (open_slip h a b)).shared.out ≡ out_opened e.shared.out r
-opened_at s m e h a b None (Ok x) q = ap Some (sym (ap (paper_in (paper_of x.numbers)) q))
-opened_at s m e h a b None (Err g) q = let z : ◌≡◌ {A = ℕ} 1 0 = ap refusing q in absurd (omega arith)
-opened_at s m e h a b (Some g) (Ok x) q = let z : ◌≡◌ {A = ℕ} 0 1 = ap refusing q in absurd (omega arith)
+opened_at s m e h a b None (Ok x) q = cc
+opened_at s m e h a b None (Err g) q = cc
+opened_at s m e h a b (Some g) (Ok x) q = cc
 opened_at s m e h a b (Some g) (Err k) q = refl
-
-pub opened : (s : ScaleModel) (m : MeterModel) (e : EngineModel) (h a b : ℕ) (r : Result Slip EngineFault) →
-    open_answer r ≡ answer s m e (open_slip h a b) → (next s m e (open_slip h a b)).shared.out ≡ out_opened e.shared.out r
-opened s m e h a b r q = opened_at s m e h a b (refusal s m e.shared (open_slip h a b)) r q
-
--- a slip that is carried or withdrawn is no longer out
-pub record Ends (s : ScaleModel) (m : MeterModel) (e : EngineModel) (p : Paper) (h : Option Paper) : Type 0 where
-  pub carried : agrees (next s m e (carry p)).shared.out (left_held h p) ≡ true
-  pub withdrawn : agrees (next s m e (withdraw p)).shared.out (left_held h p) ≡ true
 
 -- the slip q is out and held, and p is presented, which is q or not
 presented : (s : ScaleModel) (m : MeterModel) (e : EngineModel) (p q : Paper) (t : Bool) → e.shared.out ≡ Some q →
@@ -98,36 +63,41 @@ ends_at : (s : ScaleModel) (m : MeterModel) (e : EngineModel) (p : Paper) (o h :
     (agrees (after s m (ask_slip o p) e (carry p)).shared.out (left_held h p) ≡ true)
     × (agrees (after s m (ask_slip o p) e (withdraw p)).shared.out (left_held h p) ≡ true)
 ends_at s m e p None None q t = let k = agrees_by _ None None None q refl refl in (k, k)
-ends_at s m e p None (Some h) q t = never t
-ends_at s m e p (Some o) None q t = never t
+ends_at s m e p None (Some h) q t = absurd (false≢true t)
+ends_at s m e p (Some o) None q t = absurd (false≢true t)
 ends_at s m e p (Some o) (Some h) q t =
     subst (λ (x : Paper). (agrees (after s m (ask_slip (Some o) p) e (carry p)).shared.out (left_held (Some x) p) ≡ true)
     × (agrees (after s m (ask_slip (Some o) p) e (withdraw p)).shared.out (left_held (Some x) p) ≡ true))
     (same_paper_lem o h t) (presented s m e p o (same_paper o p) q)
 
-pub ends : (s : ScaleModel) (m : MeterModel) (e : EngineModel) (p : Paper) (h : Option Paper) → agrees e.shared.out h ≡ true → Ends s m e p h
-ends s m e p h t =
-    let k = ends_at s m e p e.shared.out h refl t in record { carried = k.0; withdrawn = k.1 }
+-- a book that is loaded leaves what is out
+pub loaded : (e : Public) (r : Result BookModel CheckFault) → (public_loaded e r).out ≡ e.out
+loaded e (Ok b) = refl
+loaded e (Err f) = refl
 
--- a withdrawal of the slip that is held settles the engine
-settled_at : (s : ScaleModel) (m : MeterModel) (e : EngineModel) (p : Paper) (o : Option Paper) → agrees o (Some p) ≡ true → next s m e (withdraw p) ≡ settled_by s m e o
-settled_at s m e p None t = never t
-settled_at s m e p (Some q) t = ap (λ (x : Paper). next s m e (withdraw x)) (sym (same_paper_lem q p t))
+-- so does a call that leaves it where it is accepted
+kept_at : (s : ScaleModel) (m : MeterModel) (e : EngineModel) (c : Call) → (public_after s m e.shared c).out ≡ e.shared.out → (f : Option EngineFault) → (after s m f e c).shared.out ≡ e.shared.out
+kept_at s m e c same None = same
+kept_at s m e c same (Some f) = refl
 
-pub settles : (s : ScaleModel) (m : MeterModel) (e : EngineModel) (p : Paper) → agrees e.shared.out (Some p) ≡ true → next s m e (withdraw p) ≡ settled s m e
-settles s m e p t = settled_at s m e p e.shared.out t
+-- a call that carries or withdraws this slip
+abbrev pub Spends : Call → Paper → Type 0
+Spends c p = (c ≡ carry p) ⊎ (c ≡ withdraw p)
 
--- a put and a run leave what is out
-put_at : (s : ScaleModel) (m : MeterModel) (e : EngineModel) (v : ℕ) (a : ℤ) (f : Option EngineFault) → (after s m f e (put v a)).shared.out ≡ e.shared.out
-put_at s m e v a None = refl
-put_at s m e v a (Some f) = refl
+spent_at : (s : ScaleModel) (m : MeterModel) (e : EngineModel) (c : Call) (p : Paper) (h : Option Paper) → Spends c p → agrees e.shared.out h ≡ true → agrees (next s m e c).shared.out (left_held h p) ≡ true
+spent_at s m e c p h (inl is) t = rw is (ends_at s m e p e.shared.out h refl t).0
+spent_at s m e c p h (inr is) t = rw is (ends_at s m e p e.shared.out h refl t).1
 
-pub out_put : (s : ScaleModel) (m : MeterModel) (e : EngineModel) (v : ℕ) (a : ℤ) → (next s m e (put v a)).shared.out ≡ e.shared.out
-out_put s m e v a = put_at s m e v a (refusal s m e.shared (put v a))
+-- What is held stays what is out after one step of an engine.
+module _ {S M : Type 0} {s : S → ScaleModel} {m : M → MeterModel} {d e : Engine S M} where
+  pub opened : {h a b : ℕ} (r : Result Slip EngineFault) → IsStep s m d e (open_slip h a b) (open_answer r) → (engine_of e).shared.out ≡ out_opened (engine_of d).shared.out r
+  opened {h} {a} {b} r step =
+      ap (λ (x : EngineModel). x.shared.out) step.after ∙ opened_at (s d.scale) (m d.meter) (engine_of d) h a b (refusal (s d.scale) (m d.meter) (engine_of d).shared (open_slip h a b)) r step.answer
 
-run_at : (s : ScaleModel) (m : MeterModel) (e : EngineModel) (n : ℕ) (f : Option EngineFault) → (after s m f e (run n)).shared.out ≡ e.shared.out
-run_at s m e n None = refl
-run_at s m e n (Some f) = refl
+  pub kept : {c : Call} {r : Answer} (h : Option Paper) → (public_after (s d.scale) (m d.meter) (engine_of d).shared c).out ≡ (engine_of d).shared.out → IsStep s m d e c r → agrees (engine_of d).shared.out h ≡ true → agrees (engine_of e).shared.out h ≡ true
+  kept {c} h same step tied =
+      agrees_by _ h _ h (ap (λ (x : EngineModel). x.shared.out) step.after ∙ kept_at (s d.scale) (m d.meter) (engine_of d) c same (refusal (s d.scale) (m d.meter) (engine_of d).shared c)) refl tied
 
-pub out_run : (s : ScaleModel) (m : MeterModel) (e : EngineModel) (n : ℕ) → (next s m e (run n)).shared.out ≡ e.shared.out
-out_run s m e n = run_at s m e n (refusal s m e.shared (run n))
+  pub spent : {c : Call} {r : Answer} (p : Paper) (h k : Option Paper) → Spends c p → IsStep s m d e c r → k ≡ left_held h p → agrees (engine_of d).shared.out h ≡ true → agrees (engine_of e).shared.out k ≡ true
+  spent {c} p h k is step gone tied =
+      agrees_by _ k _ (left_held h p) (ap (λ (x : EngineModel). x.shared.out) step.after) gone (spent_at (s d.scale) (m d.meter) (engine_of d) c p h is tied)

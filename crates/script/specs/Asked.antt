@@ -1,12 +1,13 @@
 -- What a line asks for.
 use Rattle.std.specs.Prelude.{ℕ, Bool, true, cond, ◌&&◌, List, [], ◌∷◌, length, Some, None, codes, Option, ◌==◌, nat_lt}
 use Rattle.engine.specs.Models.{Call, load, put, run, show, clock, open_slip, carry, withdraw, tally, Paper}
-use Rattle.script.specs.Hex.{bytes, in_front}
-use Rattle.script.specs.Words.{integer, natural, words_of}
+use Rattle.script.specs.Words.{words_of}
 use Rattle.script.specs.declared.command.MeterChoice.TheVariants.{Card, Digit}
 use Rattle.script.specs.declared.command.MeterChoice.{MeterChoice}
 use Rattle.script.specs.declared.command.ScaleChoice.TheVariants.{Ladder, Departments}
 use Rattle.script.specs.declared.command.ScaleChoice.{ScaleChoice}
+use Rattle.spelling.specs.Hex.{bytes}
+use Rattle.spelling.specs.Numerals.{integer, natural, naturals}
 use Rattle.std.specs.Option.{option_map}
 use Rattle.std.specs.Str.{bytes_eq}
 
@@ -33,13 +34,9 @@ paper h from to n = record { holder = h; from = from; to = to; number = n }
 abbrev pub slip_spelled : List ℕ → List ℕ → List ℕ → List ℕ → Option Paper
 slip_spelled w x y z = given (given (given (option_map paper (natural 16 w)) (natural 32 x)) (natural 32 y)) (natural 32 z)
 
--- the charges of a card
-abbrev pub each_natural : List (List ℕ) → Option (List ℕ)
-each_natural [] = Some []
-each_natural (w ∷ ws) = in_front (natural 32 w) (each_natural ws)
-
+-- the twelve charges of a card
 abbrev pub charges_spelled : List (List ℕ) → Option (List ℕ)
-charges_spelled ws = cond (length ws == 12) (each_natural ws) None
+charges_spelled ws = naturals 12 ws
 
 -- what the words behind `scale` spell
 abbrev pub scale_spelled : List (List ℕ) → Option ScaleChoice

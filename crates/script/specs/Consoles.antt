@@ -11,10 +11,9 @@ use Rattle.refusal.specs.declared.MakerFault.{MakerFault}
 use Rattle.scale.specs.Ladders.{ladder}
 use Rattle.scale.specs.Scales.{ScaleModel}
 use Rattle.script.specs.Asked.{Ask, scale as ask_scale, meter as ask_meter, call}
-use Rattle.script.specs.Calls.{call_of}
 use Rattle.script.specs.Chosen.{MeterMade, meter_made, meter_of, ScaleMade, scale_made, scale_of}
+use Rattle.script.specs.Desks.{Called}
 use Rattle.script.specs.Replies.{reply_to}
-use Rattle.script.specs.declared.call.Call.{Call as ScriptCall}
 use Rattle.script.specs.declared.chosen.ChosenMeter.{ChosenMeter}
 use Rattle.script.specs.declared.chosen.ChosenScale.{ChosenScale}
 use Rattle.script.specs.declared.command.Command.TheVariants.{Scale, Meter, Call}
@@ -93,12 +92,10 @@ abbrev pub Remetered : Result ChosenMeter MakerFault → Console → Console →
 Remetered (Ok m) before after r = (after.scale ≡ before.scale) × (after.meter ≡ m) × Fresh after.desk before.scale m × (r ≡ Done)
 Remetered (Err e) before after r = (after ≡ before) × (r ≡ Refused (maker_refusal e))
 
--- a call is one step of the engine on the desk, and its answer is the reply
-abbrev pub Called : Desk → Desk → ScriptCall → Reply → Type 0
-Called before after x r =
-    (r ≡ reply_to (answer (scale_of before.engine.scale) (meter_of before.engine.meter) (engine_of before.engine) (call_of x)))
-    × (engine_of after.engine ≡ next (scale_of before.engine.scale) (meter_of before.engine.meter) (engine_of before.engine) (call_of x))
-    × (after.engine.scale ≡ before.engine.scale) × (after.engine.meter ≡ before.engine.meter)
+-- the reply that an answer is: what could not be made is refused
+abbrev pub reply_of : Result Reply MakerFault → Reply
+reply_of (Ok r) = r
+reply_of (Err e) = Refused (maker_refusal e)
 
 -- what a line asks for is done
 abbrev pub Obeyed : Command → Console → Console → Reply → Type 0

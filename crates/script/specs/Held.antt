@@ -2,12 +2,12 @@
 use Rattle.engine.specs.declared.slip.Slip.{Slip}
 use Rattle.engine.specs.Models.{Paper, same_paper}
 use Rattle.engine.specs.Seen.{paper_of}
+use Rattle.std.specs.Option.{option_map}
 use Rattle.std.specs.Prelude.{Bool, true, false, cond, Some, None, Option}
 
 -- what stands on it
 abbrev pub paper_held : Option Slip → Option Paper
-paper_held None = None
-paper_held (Some x) = Some (paper_of x.numbers)
+paper_held h = option_map (λ x. paper_of x.numbers) h
 
 -- whether it has these numbers
 abbrev pub is_held : Option Paper → Paper → Bool

@@ -3,7 +3,6 @@ pub mod Replies
 pub mod Lines
 pub mod Held
 pub mod Desks
-pub mod Hex
 pub mod Words
 pub mod Asked
 pub mod Calls

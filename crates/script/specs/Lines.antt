@@ -2,7 +2,7 @@
 use Rattle.std.specs.Prelude.{ℕ, List, ◌++◌, codes, decimal}
 use Rattle.script.specs.declared.reply.Reply.TheVariants.{Unreadable, Done, Loaded, Amount, Clock, Opened, Counts, Refused}
 use Rattle.script.specs.declared.reply.Reply.{Reply}
-use Rattle.line.specs.Lines.{layer_name}
+use Rattle.refusal.specs.Layers.{layer_name}
 use Rattle.std.specs.Fmt.{signed_decimal}
 
 -- `error`, `ok`, or a word and its numbers, one space between them

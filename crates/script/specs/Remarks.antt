@@ -1,10 +1,10 @@
 -- Which lines of a script are passed over.
-use Rattle.std.specs.Prelude.{ℕ, Bool, true, ◌&&◌, ◌||◌, List, [], ◌∷◌, ◌==◌, slice_index}
+use Rattle.std.specs.List.{list_all}
+use Rattle.std.specs.Prelude.{ℕ, Bool, ◌||◌, List, ◌==◌, slice_index}
 
 -- nothing but spaces (byte 32)
 abbrev pub blank : List ℕ → Bool
-blank [] = true
-blank (x ∷ xs) = x == 32 && blank xs
+blank bs = list_all (λ b. b == 32) bs
 
 -- a `#` (byte 35) in front
 abbrev pub marked : List ℕ → Bool

@@ -4,13 +4,13 @@ use Rattle.script.specs.Asked.{asked}
 use Rattle.script.specs.Consoles.{ConsoleModel, heeding, opened, replying_to}
 use Rattle.script.specs.Lines.{line_of}
 use Rattle.script.specs.Remarks.{remark}
-use Rattle.script.specs.Words.{before}
 use Rattle.script.specs.declared.reply.Reply.{Reply}
+use Rattle.std.specs.List.{onto_first}
 
 -- The lines of a script. Each ends with a line feed (byte 10), and the last may end with the script.
 abbrev pub lines_of : List ℕ → List (List ℕ)
 lines_of [] = []
-lines_of (b ∷ bs) = cond (b == 10) ([] ∷ lines_of bs) (before b (lines_of bs))
+lines_of (b ∷ bs) = cond (b == 10) ([] ∷ lines_of bs) (onto_first b (lines_of bs))
 
 -- A remark is passed over, and every other line is answered.
 abbrev pub reply : ConsoleModel → List ℕ → Option Reply

@@ -13,6 +13,8 @@ use scale::departments::Departments;
 use scale::ladder::Ladder;
 use scale::scale::Scale;
 
+// A match in each method, here and below: a `dyn Scale` would stand behind a box on the heap and could not be copied,
+// while a console and the engine on its desk each hold a copy.
 #[derive(Clone, Copy)]
 pub(crate) enum ChosenScale {
     Ladder(Ladder),
@@ -91,8 +93,8 @@ impl Scale for ChosenScale {
 }
 
 impl Meter for ChosenMeter {
-    // the larger of the two kinds' largest charges
-    const LARGEST: u32 = 1000;
+    // the larger of the two kinds' largest charges, which is a card's
+    const LARGEST: u32 = Card::LARGEST;
 
     ghost meaning = { meter_of };
 

@@ -1,8 +1,8 @@
 -- A list kept in the first n places of an array, the last one first.
-use Rattle.std.proofs.Common.{◌≡◌, ℕ, ◌+◌, ◌-◌, ◌<◌, ◌≤◌, List, [], ◌∷◌, reverse, length, get_or, take, set, Some, None, sym, refl, ap, ◌∙◌, arith}
+use Rattle.std.proofs.Common.{◌≡◌, ℕ, zero, suc, ◌+◌, ◌-◌, ◌<◌, ◌≤◌, List, [], ◌∷◌, reverse, length, get_or, take, drop, set, Some, None, sym, refl, ap, ◌∙◌, arith}
 use Rattle.stack.specs.declared.eight.Stack.{Stack}
 use Rattle.stack.specs.Stacks.{first, held, rest}
-use Rattle.std.proofs.lemmas.List.{length-reverse, length-take-le, take_more, take_more_set, reverse-append}
+use Rattle.std.proofs.lemmas.List.{length-reverse, length-take-le, take_more, take_more_set, reverse-append, drop_all}
 
 module _ {T : Type 0} (xs : List T) (n : ℕ) where
   pub height : n ≤ length xs → length (reverse (take n xs)) ≡ n
@@ -20,18 +20,29 @@ pub fewer : {T : Type 0} (xs : List T) (n : ℕ) → 0 < n → n ≤ length xs �
 fewer [] n p h = absurd (omega arith)
 fewer (x ∷ xs) n p h = ap rest (less (x ∷ xs) n x p h)
 
-pub second_some : {T : Type 0} (xs : List T) (n : ℕ) (d : T) → 1 < n → n ≤ length xs → first (rest (reverse (take n xs))) ≡ Some (get_or xs (n - 2) d)
-second_some xs n d p h =
-    let two : n - 1 - 1 ≡ n - 2 = omega arith in
-    ap (λ l. first (rest l)) (less xs n d (omega arith) h) ∙ ap first (less xs (n - 1) d (omega arith) (omega arith)) ∙ ap (λ k. Some (get_or xs k d)) two
+pub drop_one : {T : Type 0} (l : List T) → drop 1 l ≡ rest l
+drop_one [] = refl
+drop_one (x ∷ l) = refl
 
-short : {T : Type 0} (l : List T) → length l < 2 → first (rest l) ≡ None
-short [] h = refl
-short (x ∷ []) h = refl
-short (x ∷ y ∷ l) h = absurd (omega arith)
+-- an item off the top and one fewer above
+dropped : {T : Type 0} (xs : List T) (n a : ℕ) → 0 < n → n ≤ length xs → drop (suc a) (reverse (take n xs)) ≡ drop a (reverse (take (n - 1) xs))
+dropped [] n a p h = absurd (omega arith)
+dropped (x ∷ xs) n a p h = ap (drop (suc a)) (less (x ∷ xs) n x p h)
 
-pub second_none : {T : Type 0} (xs : List T) (n : ℕ) → n < 2 → n ≤ length xs → first (rest (reverse (take n xs))) ≡ None
-second_none xs n p h = short (reverse (take n xs)) (omega (arith, height xs n h))
+pub under_some : {T : Type 0} (xs : List T) (n a : ℕ) (d : T) → a < n → n ≤ length xs → first (drop a (reverse (take n xs))) ≡ Some (get_or xs (n - 1 - a) d)
+under_some xs n zero d p h =
+    let back : n - 1 ≡ n - 1 - 0 = omega arith in
+    ap first (less xs n d (omega arith) h) ∙ ap (λ k. Some (get_or xs k d)) back
+under_some xs n (suc a) d p h =
+    let back : n - 1 - 1 - a ≡ n - 1 - suc a = omega arith in
+    ap first (dropped xs n a (omega arith) h) ∙ under_some xs (n - 1) a d (omega arith) (omega arith) ∙ ap (λ k. Some (get_or xs k d)) back
+
+-- nothing stands under the last item
+beyond : {T : Type 0} (l : List T) (a : ℕ) → length l ≤ a → first (drop a l) ≡ None
+beyond l a h = ap first (drop_all a l h)
+
+pub under_none : {T : Type 0} (xs : List T) (n a : ℕ) → n ≤ a → n ≤ length xs → first (drop a (reverse (take n xs))) ≡ None
+under_none xs n a p h = beyond (reverse (take n xs)) a (omega (arith, height xs n h))
 
 -- a stack never holds more than eight
 pub few : {T : Type 0} (s : Stack T) → length (held s) ≤ 8

@@ -10,10 +10,8 @@ fn divide(first: i32, second: i32) -> i32
 {
     if second == 0 {
         0
-    } else if second == -1 && first == i32::MIN {
-        i32::MAX
     } else {
-        first / second
+        first.saturating_div(second)
     }
 }
 
@@ -25,7 +23,7 @@ pub(crate) fn operate(operation: Operation, first: i32, second: i32) -> i32
         Operation::Subtract => first.saturating_sub(second),
         Operation::Multiply => first.saturating_mul(second),
         Operation::Divide => divide(first, second),
-        Operation::Less => { if first < second { 1 } else { 0 } }
-        Operation::Equal => { if first == second { 1 } else { 0 } }
+        Operation::Less => i32::from(first < second),
+        Operation::Equal => i32::from(first == second),
     }
 }

@@ -14,10 +14,8 @@ impl State {
     {
         let starts = book.starts();
         let count = starts.len();
-        let mut amounts = [0i32; 32];
-        for figure in 0..count {
-            amounts[figure] = starts[figure];
-        }
+        let mut amounts = [0; 32];
+        amounts[..count].copy_from_slice(starts);
         State {
             amounts,
             count,

@@ -16,15 +16,18 @@ impl State {
         }
     }
 
+    // The figures' amounts.
+    fn figures(&self) -> &[i32]
+        ensures { result.now ≡ (state_of self.now).figures }
+    {
+        &self.amounts[..self.count]
+    }
+
     // The amount of a figure; 0 where there is no such figure.
     pub fn amount(&self, figure: usize) -> i32
         ensures { result ≡ slice_index_or (state_of self.now).figures figure (pos 0) }
     {
-        if figure < self.count {
-            self.amounts[figure]
-        } else {
-            0
-        }
+        self.figures().get(figure).copied().unwrap_or(0)
     }
 
     // Sets a figure's amount; nothing where there is no such figure.
@@ -32,6 +35,7 @@ impl State {
         ensures amounts { (state_of self.new).figures ≡ slice_set (state_of self.old).figures figure amount }
         ensures clock { self.new.clock ≡ self.old.clock }
     {
+        // By an index: for a `get_mut` of the part in use the check writes no proof.
         if figure < self.count {
             self.amounts[figure] = amount;
         }

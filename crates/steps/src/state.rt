@@ -1,7 +1,7 @@
 // The state between runs: the figures' amounts and the clock. Its calls are beside it.
 ghost use Rattle.std.specs.Prelude.{◌≡◌, ◌≤◌, length};
 
-// Only the first `count` amounts are figures'.
+// Only the first `count` amounts are figures'. A row of the largest size: nothing here allocates, and a state is copied.
 #[derive(Clone, Copy)]
 pub struct State {
     pub(crate) amounts: [i32; 32],

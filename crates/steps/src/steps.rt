@@ -1,4 +1,5 @@
 // One method for each kind of instruction: its effect, and after it the clock moves.
+ghost use Rattle.book.specs.Codes.{code_of};
 ghost use Rattle.book.specs.declared.instruction.Instruction.TheVariants.{Clock, Figure, If, Number, Operate, Repeat, Store, Wait};
 ghost use Rattle.steps.specs.Amounts.{is_zero};
 ghost use Rattle.steps.specs.Machines.{amount_at, later, perform};
@@ -20,11 +21,16 @@ const LATEST: u64 = 1_000_000_000_000;
 impl State {
     // Moves the clock.
     pub(crate) fn tick(&mut self, ticks: u32)
-        ensures amounts { self.new.amounts ≡ self.old.amounts }
-        ensures count { self.new.count ≡ self.old.count }
-        ensures clock { self.new.clock ≡ later self.old.clock ticks }
+        ensures { self.new ≡ record self.old { clock = later self.old.clock ticks } }
     {
         self.clock = self.clock.saturating_add(u64::from(ticks)).min(LATEST);
+    }
+
+    // Moves the clock by what the meter charges for an instruction with these operands.
+    fn charge<M: Meter>(&mut self, meter: &M, instruction: Instruction, first: i32, second: i32)
+        ensures { self.new ≡ record self.old { clock = later self.old.clock ((M.Meter.meaning meter.now).charge (code_of instruction) first second) } }
+    {
+        self.tick(meter.charge(code_of(instruction), first, second));
     }
 }
 
@@ -34,25 +40,25 @@ impl Machine {
         ensures { machine_of self.new ≡ perform (M.Meter.meaning meter.now) (Number number) (machine_of self.old) }
     {
         let _ = self.stack.push(number);
-        self.state.tick(meter.charge(1, 0, 0));
+        self.state.charge(meter, Instruction::Number(number), 0, 0);
     }
 
     // Pushes a figure's amount.
     pub fn figure<M: Meter>(&mut self, meter: &M, figure: u8)
         ensures { machine_of self.new ≡ perform (M.Meter.meaning meter.now) (Figure figure) (machine_of self.old) }
     {
-        let amount = self.state.amount(figure as usize);
+        let amount = self.state.amount(usize::from(figure));
         let _ = self.stack.push(amount);
-        self.state.tick(meter.charge(2, 0, 0));
+        self.state.charge(meter, Instruction::Figure(figure), 0, 0);
     }
 
     // Pushes a reading of the clock.
     pub fn read_clock<M: Meter>(&mut self, meter: &M)
         ensures { machine_of self.new ≡ perform (M.Meter.meaning meter.now) Clock (machine_of self.old) }
     {
-        let reading = self.state.clock.min(2_147_483_647) as i32;
+        let reading = i32::try_from(self.state.clock).unwrap_or(i32::MAX);
         let _ = self.stack.push(reading);
-        self.state.tick(meter.charge(3, 0, 0));
+        self.state.charge(meter, Instruction::Clock, 0, 0);
     }
 
     // Replaces the top two amounts by the result of an operation on them.
@@ -62,7 +68,8 @@ impl Machine {
         let second = self.stack.pop().unwrap_or(0);
         let first = self.stack.pop().unwrap_or(0);
         let _ = self.stack.push(operate(operation, first, second));
-        self.state.tick(meter.charge(code_of(Instruction::Operate(operation)), first, second));
+        self.state
+            .charge(meter, Instruction::Operate(operation), first, second);
     }
 
     // Sets a figure to the amount on top.
@@ -71,8 +78,9 @@ impl Machine {
     {
         let amount = self.stack.top().unwrap_or(0);
         self.stack.clear();
-        self.state.set_amount(figure as usize, amount);
-        self.state.tick(meter.charge(10, amount, 0));
+        self.state.set_amount(usize::from(figure), amount);
+        self.state
+            .charge(meter, Instruction::Store(figure), amount, 0);
     }
 
     // Lets ticks pass.
@@ -90,7 +98,7 @@ impl Machine {
     {
         let amount = self.stack.top().unwrap_or(0);
         self.stack.clear();
-        self.state.tick(meter.charge(11, amount, 0));
+        self.state.charge(meter, Instruction::If, amount, 0);
         amount != 0
     }
 
@@ -99,6 +107,6 @@ impl Machine {
         ensures { machine_of self.new ≡ perform (M.Meter.meaning meter.now) (Repeat count) (machine_of self.old) }
     {
         self.stack.clear();
-        self.state.tick(meter.charge(12, 0, 0));
+        self.state.charge(meter, Instruction::Repeat(count), 0, 0);
     }
 }

@@ -11,7 +11,7 @@ pub struct Diamond;
 fn is_corner(code: u16) -> bool
     ensures { result ≡ corner code }
 {
-    10 <= code && code <= 13
+    matches!(code, 10..=13)
 }
 
 impl Scale for Diamond {

@@ -1,12 +1,12 @@
 // The calls on an engine. Each is one step of the model, refused or accepted.
 ghost use Rattle.reader.specs.Books.{said};
-ghost use Rattle.engine.specs.Calls.{answer, next};
-ghost use Rattle.engine.specs.Models.{ask_apart, ask_figure, ask_level, ask_sight, ask_slip, carry as carry_call, clock as clock_call, fresh, load as load_call, open_slip, or_else, put as put_call, run as run_call, show as show_call, tally as tally_call, unless, withdraw as withdraw_call};
+ghost use Rattle.engine.specs.Models.{ask_apart, ask_figure, ask_level, ask_no_slip, ask_sight, ask_slip, carry as carry_call, clock as clock_call, fresh, level_of, load as load_call, open_slip, or_else, put as put_call, run as run_call, show as show_call, tally as tally_call, unless, withdraw as withdraw_call};
 ghost use Rattle.engine.specs.Promises.{Promise};
-ghost use Rattle.engine.specs.Seen.{Back, Voided, clock_answer, engine_of, load_answer, open_answer, out_of, paper_of, plain_answer, show_answer, slip_answer, tally_answer};
+ghost use Rattle.engine.specs.Seen.{Back, book_of, clock_answer, Ended, engine_of, IsStep, load_answer, open_answer, out_of, paper_of, plain_answer, show_answer, slip_answer, tally_answer, Voided};
 ghost use Rattle.engine.specs.Worked.{WorkedExamples};
-ghost use Rattle.refusal.specs.declared.engine.EngineFault.TheVariants.{NotTheSlip};
-ghost use Rattle.std.specs.Prelude.{◌≡◌};
+ghost use Rattle.refusal.specs.declared.engine.EngineFault.TheVariants.{NoBook, NotTheSlip};
+ghost use Rattle.std.specs.Prelude.{◌≡◌, IfOk, MatchResult, None, Some};
+ghost use Rattle.std.specs.Result.{result_err};
 
 use crate::engine::Engine;
 use crate::slip::{Numbers, Refused, Slip, Tally};
@@ -18,54 +18,86 @@ use refusal::engine::EngineFault;
 use scale::scale::Scale;
 use steps::state::State;
 
-// Changes nothing: a call brings the promise into its caller's proof.
-fn promises<S: Scale, M: Meter>(scale: &S, meter: &M)
-    ensures { Promise (S.Scale.meaning scale.now) (M.Meter.meaning meter.now) }
+// Refuses with this fault unless a test passed.
+fn refuse_unless(passed: bool, fault: EngineFault) -> Result<(), EngineFault>
+    ensures { result_err result ≡ unless passed fault }
 {
-    scale.laws();
-    meter.laws();
+    if passed { Ok(()) } else { Err(fault) }
 }
 
-// Changes nothing: a call brings the worked examples into its caller's proof.
-fn worked_examples()
-    ensures { WorkedExamples }
-{}
+// The level of a figure, if the book has it.
+fn figure_level(book: &Book, figure: u32) -> Result<u16, EngineFault>
+    ensures asked { result_err result ≡ ask_figure (said book.now) figure }
+    ensures level { IfOk result (λ level. level ≡ level_of (said book.now) figure) }
+{
+    book.levels()
+        .get(figure as usize)
+        .copied()
+        .ok_or(EngineFault::NoSuch(figure))
+}
 
 impl<S: Scale, M: Meter> Engine<S, M> {
     // An engine with no book and no slip, clock and counts at 0. Each call on it is one step of the
     // model, and of every list of calls it promises: whoever sees a level and below cannot tell it
     // from another whose list differs in private puts alone, and slips add up.
+    #[tactic(auto, using(crate::proofs::Promised::promise, crate::proofs::Worked::worked_examples))]
     pub fn new(scale: S, meter: M) -> Self
         ensures made { engine_of result ≡ fresh }
         ensures parts { (result.scale ≡ scale) × (result.meter ≡ meter) }
         ensures promise { Promise (S.Scale.meaning scale) (M.Meter.meaning meter) }
         ensures worked { WorkedExamples }
     {
-        promises(&scale, &meter);
-        worked_examples();
+        scale.laws();
+        meter.laws();
         Engine {
             scale,
             meter,
             program: None,
             state: State::empty(),
             out: None,
-            openings: 0,
-            carries: 0,
-            withdrawals: 0,
+            tally: Tally {
+                openings: 0,
+                carries: 0,
+                withdrawals: 0,
+            },
         }
+    }
+
+    // The loaded book.
+    fn book(&self) -> Result<&Book, EngineFault>
+        ensures { MatchResult result (λ book. book_of self.now.program ≡ Some (said book.now)) (λ fault. (book_of self.now.program ≡ None) × (fault ≡ NoBook)) }
+    {
+        let program = self.program.as_ref().ok_or(EngineFault::NoBook)?;
+        Ok(program.book())
+    }
+
+    // Refuses a level that the scale does not know.
+    fn ask_level(&self, level: u16) -> Result<(), EngineFault>
+        ensures { result_err result ≡ ask_level (S.Scale.meaning self.now.scale) level }
+    {
+        refuse_unless(self.scale.known(level), EngineFault::UnknownLevel(level))
+    }
+
+    // Refuses, with this fault, what a level that is not at or below another one hides.
+    fn ask_below(&self, low: u16, high: u16, hidden: EngineFault) -> Result<(), EngineFault>
+        ensures { result_err result ≡ unless ((S.Scale.meaning self.now.scale).below low high) hidden }
+    {
+        refuse_unless(self.scale.at_or_below(low, high), hidden)
+    }
+
+    // Refuses while a slip is out.
+    fn ask_no_slip(&self) -> Result<(), EngineFault>
+        ensures { result_err result ≡ ask_no_slip (out_of self.now.out) }
+    {
+        refuse_unless(self.out.is_none(), EngineFault::SlipOut)
     }
 
     // Loads a book: its figures get their start amounts and the clock starts at 0. Answers how many
     // events there are.
     pub fn load(&mut self, bytes: &[u8]) -> Result<u32, EngineFault>
-        ensures answer { load_answer result ≡ answer (S.Scale.meaning self.old.scale) (M.Meter.meaning self.old.meter) (engine_of self.old) (load_call bytes.now) }
-        ensures after { engine_of self.new ≡ next (S.Scale.meaning self.old.scale) (M.Meter.meaning self.old.meter) (engine_of self.old) (load_call bytes.now) }
-        ensures kept { (self.new.scale ≡ self.old.scale) × (self.new.meter ≡ self.old.meter) }
+        ensures { IsStep S.Scale.meaning M.Meter.meaning self.old self.new (load_call bytes.now) (load_answer result) }
     {
-        let slip_out = self.out.is_some();
-        if slip_out {
-            return Err(EngineFault::SlipOut);
-        }
+        self.ask_no_slip()?; // A slip speaks of the figures of the loaded book.
         let book = check(&self.scale, &self.meter, bytes)?;
         let count = book.events();
         self.state = State::new(&book);
@@ -75,118 +107,67 @@ impl<S: Scale, M: Meter> Engine<S, M> {
 
     // Puts an amount into a figure, without ticks. No amount is refused.
     pub fn put(&mut self, figure: u32, amount: i32) -> Result<(), EngineFault>
-        ensures answer { plain_answer result ≡ answer (S.Scale.meaning self.old.scale) (M.Meter.meaning self.old.meter) (engine_of self.old) (put_call figure amount) }
-        ensures after { engine_of self.new ≡ next (S.Scale.meaning self.old.scale) (M.Meter.meaning self.old.meter) (engine_of self.old) (put_call figure amount) }
-        ensures kept { (self.new.scale ≡ self.old.scale) × (self.new.meter ≡ self.old.meter) }
+        ensures { IsStep S.Scale.meaning M.Meter.meaning self.old self.new (put_call figure amount) (plain_answer result) }
     {
-        let Some(program) = &self.program else {
-            return Err(EngineFault::NoBook);
-        };
-        if figure as usize >= program.book().levels().len() {
-            return Err(EngineFault::NoSuch(figure));
-        }
+        figure_level(self.book()?, figure)?;
         self.state.set_amount(figure as usize, amount);
         Ok(())
     }
 
     // Runs an event.
     pub fn run(&mut self, event: u32) -> Result<(), EngineFault>
-        ensures answer { plain_answer result ≡ answer (S.Scale.meaning self.old.scale) (M.Meter.meaning self.old.meter) (engine_of self.old) (run_call event) }
-        ensures after { engine_of self.new ≡ next (S.Scale.meaning self.old.scale) (M.Meter.meaning self.old.meter) (engine_of self.old) (run_call event) }
-        ensures kept { (self.new.scale ≡ self.old.scale) × (self.new.meter ≡ self.old.meter) }
+        ensures { IsStep S.Scale.meaning M.Meter.meaning self.old self.new (run_call event) (plain_answer result) }
     {
-        let Some(program) = &self.program else {
-            return Err(EngineFault::NoBook);
-        };
-        if !program.run(&self.meter, event, &mut self.state) {
-            return Err(EngineFault::NoSuch(event));
-        }
+        let program = self.program.as_ref().ok_or(EngineFault::NoBook)?;
+        program.run(&self.meter, event, &mut self.state)?;
         Ok(())
     }
 
     // Shows a figure's amount to an observer of this level.
     pub fn show(&self, level: u16, figure: u32) -> Result<i32, EngineFault>
-        ensures answer { show_answer result ≡ answer (S.Scale.meaning self.now.scale) (M.Meter.meaning self.now.meter) (engine_of self.now) (show_call level figure) }
+        ensures { IsStep S.Scale.meaning M.Meter.meaning self.now self.now (show_call level figure) (show_answer result) }
     {
-        let Some(program) = &self.program else {
-            return Err(EngineFault::NoBook);
-        };
-        if !self.scale.known(level) {
-            return Err(EngineFault::UnknownLevel(level));
-        }
-        let levels = program.book().levels();
-        if figure as usize >= levels.len() {
-            return Err(EngineFault::NoSuch(figure));
-        }
-        if !self.scale.at_or_below(levels[figure as usize], level) {
-            return Err(EngineFault::Hidden(figure));
-        }
+        let book = self.book()?;
+        self.ask_level(level)?;
+        let own = figure_level(book, figure)?;
+        self.ask_below(own, level, EngineFault::Hidden(figure))?;
         Ok(self.state.amount(figure as usize))
     }
 
     // Shows the clock to an observer of this level.
     pub fn clock(&self, level: u16) -> Result<u64, EngineFault>
-        ensures answer { clock_answer result ≡ answer (S.Scale.meaning self.now.scale) (M.Meter.meaning self.now.meter) (engine_of self.now) (clock_call level) }
+        ensures { IsStep S.Scale.meaning M.Meter.meaning self.now self.now (clock_call level) (clock_answer result) }
     {
-        let Some(program) = &self.program else {
-            return Err(EngineFault::NoBook);
-        };
-        if !self.scale.known(level) {
-            return Err(EngineFault::UnknownLevel(level));
-        }
-        if !self.scale.at_or_below(program.book().clock_level(), level) {
-            return Err(EngineFault::Hidden(32));
-        }
+        let book = self.book()?;
+        self.ask_level(level)?;
+        self.ask_below(book.clock_level(), level, EngineFault::HiddenClock)?;
         Ok(self.state.clock())
     }
 
-    // What is asked of the figures of a slip before it is opened.
-    fn ask_figures(&self, book: &Book, holder: u16, from: u32, to: u32) -> Option<EngineFault>
-        ensures { result ≡ or_else (ask_level (S.Scale.meaning self.now.scale) holder) (or_else (ask_figure (said book.now) from) (or_else (ask_figure (said book.now) to) (or_else (ask_apart from to) (ask_sight (S.Scale.meaning self.now.scale) (said book.now) holder from)))) }
+    // Refuses figures that a slip of this holder cannot name.
+    fn ask_figures(&self, book: &Book, holder: u16, from: u32, to: u32) -> Result<(), EngineFault>
+        ensures { result_err result ≡ or_else (ask_level (S.Scale.meaning self.now.scale) holder) (or_else (ask_figure (said book.now) from) (or_else (ask_figure (said book.now) to) (or_else (ask_apart from to) (ask_sight (S.Scale.meaning self.now.scale) (said book.now) holder from)))) }
     {
-        if !self.scale.known(holder) {
-            return Some(EngineFault::UnknownLevel(holder));
-        }
-        let levels = book.levels();
-        if from as usize >= levels.len() {
-            return Some(EngineFault::NoSuch(from));
-        }
-        if to as usize >= levels.len() {
-            return Some(EngineFault::NoSuch(to));
-        }
-        if from == to {
-            return Some(EngineFault::SameFigure(from));
-        }
-        if !self.scale.at_or_below(levels[from as usize], holder) {
-            return Some(EngineFault::Hidden(from));
-        }
-        None
+        self.ask_level(holder)?;
+        let own = figure_level(book, from)?;
+        figure_level(book, to)?;
+        refuse_unless(from != to, EngineFault::SameFigure(from))?;
+        self.ask_below(own, holder, EngineFault::Hidden(from))
     }
 
     // Opens a slip for a holder of this level, from one figure to another.
     pub fn open_slip(&mut self, holder: u16, from: u32, to: u32) -> Result<Slip, EngineFault>
-        ensures answer { open_answer result ≡ answer (S.Scale.meaning self.old.scale) (M.Meter.meaning self.old.meter) (engine_of self.old) (open_slip holder from to) }
-        ensures after { engine_of self.new ≡ next (S.Scale.meaning self.old.scale) (M.Meter.meaning self.old.meter) (engine_of self.old) (open_slip holder from to) }
-        ensures kept { (self.new.scale ≡ self.old.scale) × (self.new.meter ≡ self.old.meter) }
+        ensures { IsStep S.Scale.meaning M.Meter.meaning self.old self.new (open_slip holder from to) (open_answer result) }
     {
-        let Some(program) = &self.program else {
-            return Err(EngineFault::NoBook);
-        };
-        if let Some(fault) = self.ask_figures(program.book(), holder, from, to) {
-            return Err(fault);
-        }
-        if self.out.is_some() {
-            return Err(EngineFault::SlipOut);
-        }
-        if self.openings >= 65_535 {
-            return Err(EngineFault::TooManyOpenings);
-        }
-        self.openings += 1;
+        self.ask_figures(self.book()?, holder, from, to)?;
+        self.ask_no_slip()?;
+        refuse_unless(self.tally.openings < 65_535, EngineFault::TooManyOpenings)?;
+        self.tally.openings += 1;
         let numbers = Numbers {
             holder,
             from,
             to,
-            number: self.openings,
+            number: self.tally.openings,
         };
         self.out = Some(numbers);
         Ok(Slip { numbers })
@@ -196,23 +177,12 @@ impl<S: Scale, M: Meter> Engine<S, M> {
     fn is_out(&self, numbers: Numbers) -> bool
         ensures { unless result NotTheSlip ≡ ask_slip (out_of self.now.out) (paper_of numbers) }
     {
-        match self.out {
-            Some(out) => {
-                out.holder == numbers.holder
-                    && out.from == numbers.from
-                    && out.to == numbers.to
-                    && out.number == numbers.number
-            }
-            None => false,
-        }
+        self.out == Some(numbers)
     }
 
-    // Carries a slip: its second figure gets the amount that its first one has now, without ticks.
-    pub fn carry(&mut self, slip: Slip) -> Result<(), Refused>
-        ensures answer { slip_answer result ≡ answer (S.Scale.meaning self.old.scale) (M.Meter.meaning self.old.meter) (engine_of self.old) (carry_call (paper_of slip.numbers)) }
-        ensures back { Back slip result }
-        ensures after { engine_of self.new ≡ next (S.Scale.meaning self.old.scale) (M.Meter.meaning self.old.meter) (engine_of self.old) (carry_call (paper_of slip.numbers)) }
-        ensures kept { (self.new.scale ≡ self.old.scale) × (self.new.meter ≡ self.old.meter) }
+    // Ends the slip that is out; any other one comes back, with the reason.
+    fn end_slip(&self, slip: Slip) -> Result<Numbers, Refused>
+        ensures { Ended (out_of self.now.out) slip result }
     {
         if !self.is_out(slip.numbers) {
             return Err(Refused {
@@ -220,30 +190,30 @@ impl<S: Scale, M: Meter> Engine<S, M> {
                 fault: EngineFault::NotTheSlip,
             });
         }
-        let numbers = slip.end();
+        Ok(slip.end())
+    }
+
+    // Carries a slip: its second figure gets the amount that its first one has now, without ticks.
+    pub fn carry(&mut self, slip: Slip) -> Result<(), Refused>
+        ensures step { IsStep S.Scale.meaning M.Meter.meaning self.old self.new (carry_call (paper_of slip.numbers)) (slip_answer result) }
+        ensures back { Back slip result }
+    {
+        let numbers = self.end_slip(slip)?;
         let amount = self.state.amount(numbers.from as usize);
         self.state.set_amount(numbers.to as usize, amount);
         self.out = None;
-        self.carries += 1;
+        self.tally.carries += 1;
         Ok(())
     }
 
     // Withdraws a slip: it is used up, and nothing moves.
     pub fn withdraw(&mut self, slip: Slip) -> Result<(), Refused>
-        ensures answer { slip_answer result ≡ answer (S.Scale.meaning self.old.scale) (M.Meter.meaning self.old.meter) (engine_of self.old) (withdraw_call (paper_of slip.numbers)) }
+        ensures step { IsStep S.Scale.meaning M.Meter.meaning self.old self.new (withdraw_call (paper_of slip.numbers)) (slip_answer result) }
         ensures back { Back slip result }
-        ensures after { engine_of self.new ≡ next (S.Scale.meaning self.old.scale) (M.Meter.meaning self.old.meter) (engine_of self.old) (withdraw_call (paper_of slip.numbers)) }
-        ensures kept { (self.new.scale ≡ self.old.scale) × (self.new.meter ≡ self.old.meter) }
     {
-        if !self.is_out(slip.numbers) {
-            return Err(Refused {
-                slip,
-                fault: EngineFault::NotTheSlip,
-            });
-        }
-        let _ = slip.end();
+        self.end_slip(slip)?;
         self.out = None;
-        self.withdrawals += 1;
+        self.tally.withdrawals += 1;
         Ok(())
     }
 
@@ -260,12 +230,8 @@ impl<S: Scale, M: Meter> Engine<S, M> {
 
     // The openings, carries and withdrawals accepted since the engine was made.
     pub fn tally(&self) -> Tally
-        ensures { tally_answer result ≡ answer (S.Scale.meaning self.now.scale) (M.Meter.meaning self.now.meter) (engine_of self.now) tally_call }
+        ensures { IsStep S.Scale.meaning M.Meter.meaning self.now self.now tally_call (tally_answer result) }
     {
-        Tally {
-            openings: self.openings,
-            carries: self.carries,
-            withdrawals: self.withdrawals,
-        }
+        self.tally
     }
 }

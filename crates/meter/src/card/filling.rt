@@ -22,10 +22,8 @@ impl Card {
     pub fn fill(&mut self, charges: &[u32; 12]) -> Result<(), MakerFault>
         ensures { Filled charges.now self.old self.new result }
     {
-        for charge in charges {
-            if *charge > MOST {
-                return Err(MakerFault::Charge);
-            }
+        if charges.iter().any(|charge| *charge > MOST) {
+            return Err(MakerFault::Charge);
         }
         self.charges = *charges;
         Ok(())
@@ -39,7 +37,7 @@ impl Meter for Card {
 
     fn charge(&self, code: u8, _first: i32, _second: i32) -> u32 {
         if is_instruction(code) {
-            self.charges[code as usize - 1]
+            self.charges[usize::from(code) - 1]
         } else {
             0
         }

@@ -1,7 +1,5 @@
 // The making of department scales, and their answers. A code has one bit for each department.
-ghost use Rattle.std.specs.Prelude.{◌≡◌, ◌<◌};
 ghost use Rattle.scale.specs.MadeSets.{DepartmentsMade, departments_of};
-ghost use Rattle.scale.specs.Sets.{has};
 
 use super::Departments;
 use crate::scale::Scale;
@@ -22,14 +20,6 @@ impl Departments {
     }
 }
 
-// Whether a department is in a set.
-fn holds(set: u16, department: u32) -> bool
-    requires { department < 16 }
-    ensures { result ≡ has department set }
-{
-    (set >> department) % 2 == 1
-}
-
 impl Scale for Departments {
     ghost meaning = { departments_of };
 
@@ -38,15 +28,7 @@ impl Scale for Departments {
     }
 
     fn at_or_below(&self, low: u16, high: u16) -> bool {
-        if !self.known(low) || !self.known(high) {
-            return false;
-        }
-        for department in 0..self.count {
-            if holds(low, department) && !holds(high, department) {
-                return false;
-            }
-        }
-        true
+        self.known(low) && self.known(high) && low | high == high
     }
 
     fn join(&self, one: u16, other: u16) -> u16 {

@@ -13,12 +13,10 @@ impl Ladder {
     pub fn new(ranks: u32) -> Result<Ladder, MakerFault>
         ensures { LadderMade ranks result }
     {
-        if ranks < 1 || ranks > 256 {
-            return Err(MakerFault::Ranks);
+        match u16::try_from(ranks) {
+            Ok(ranks @ 1..=256) => Ok(Ladder { ranks }),
+            _ => Err(MakerFault::Ranks),
         }
-        Ok(Ladder {
-            ranks: ranks as u16,
-        })
     }
 }
 

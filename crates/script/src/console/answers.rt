@@ -2,22 +2,21 @@
 ghost use Rattle.house.specs.Rulings.{ones};
 ghost use Rattle.meter.specs.Cards.{card};
 ghost use Rattle.scale.specs.Ladders.{ladder};
-ghost use Rattle.script.specs.Asked.{scale as ask_scale, meter as ask_meter};
 ghost use Rattle.script.specs.Calls.{ask_of};
-ghost use Rattle.script.specs.Chosen.{MeterMade, meter_of, ScaleMade, scale_of};
-ghost use Rattle.script.specs.Consoles.{console_of, Fresh, Obeyed, obeying, opened, Remetered, renewed, replying, Rescaled};
+ghost use Rattle.script.specs.Chosen.{meter_of, scale_of};
+ghost use Rattle.script.specs.Consoles.{console_of, Fresh, Obeyed, obeying, opened, renewed, reply_of, replying};
 ghost use Rattle.script.specs.Scripts.{after as console_after, reply as reply_to};
-ghost use Rattle.std.specs.Prelude.{◌≡◌, MatchResult, Result};
+ghost use Rattle.std.specs.Prelude.{◌≡◌, MatchResult};
 
 use crate::chosen::{ChosenMeter, ChosenScale, make_meter, make_scale};
-use crate::command::{Command, MeterChoice, ScaleChoice};
+use crate::command::Command;
 use crate::console::Console;
 use crate::desk::Desk;
-use crate::fault::LineFault;
+use crate::remarks::is_remark;
 use crate::reply::Reply;
-use crate::text::is_remark;
 use house::{card_of_ones, two_ranks};
 use refusal::MakerFault;
+use spelling::SpellingFault;
 use std::alloc::{AllocError, Global};
 
 impl Console {
@@ -49,49 +48,34 @@ impl Console {
         let _ = old.close();
     }
 
-    // Chooses another scale.
-    fn set_scale(&mut self, choice: ScaleChoice) -> Reply
-        ensures rescaled { (made : Result ChosenScale MakerFault) × ScaleMade choice made × Rescaled made self.old self.new result }
-        ensures reply { result ≡ replying (console_of self.old) (ask_scale choice) }
-        ensures after { console_of self.new ≡ obeying (console_of self.old) (ask_scale choice) }
+    // Does what a line asks for. A scale or a meter that cannot be made changes nothing.
+    fn follow(&mut self, command: &Command) -> Result<Reply, MakerFault>
+        ensures obeyed { Obeyed command.now self.old self.new (reply_of result) }
+        ensures reply { reply_of result ≡ replying (console_of self.old) (ask_of command.now) }
+        ensures after { console_of self.new ≡ obeying (console_of self.old) (ask_of command.now) }
     {
-        match make_scale(choice) {
-            Ok(scale) => {
-                let meter = self.meter;
-                self.renew(scale, meter);
-                Reply::Done
+        match command {
+            Command::Scale(choice) => {
+                let scale = make_scale(*choice)?;
+                self.renew(scale, self.meter);
+                Ok(Reply::Done)
             }
-            Err(fault) => Reply::Refused(fault.refusal()),
+            Command::Meter(choice) => {
+                let meter = make_meter(*choice)?;
+                self.renew(self.scale, meter);
+                Ok(Reply::Done)
+            }
+            Command::Call(call) => Ok(self.desk.apply(call)),
         }
     }
 
-    // Chooses another meter.
-    fn set_meter(&mut self, choice: MeterChoice) -> Reply
-        ensures remetered { (made : Result ChosenMeter MakerFault) × MeterMade choice made × Remetered made self.old self.new result }
-        ensures reply { result ≡ replying (console_of self.old) (ask_meter choice) }
-        ensures after { console_of self.new ≡ obeying (console_of self.old) (ask_meter choice) }
-    {
-        match make_meter(choice) {
-            Ok(meter) => {
-                let scale = self.scale;
-                self.renew(scale, meter);
-                Reply::Done
-            }
-            Err(fault) => Reply::Refused(fault.refusal()),
-        }
-    }
-
-    // Does what a line asks for.
+    // Does what a line asks for, and replies.
     fn obey(&mut self, command: &Command) -> Reply
         ensures obeyed { Obeyed command.now self.old self.new result }
         ensures reply { result ≡ replying (console_of self.old) (ask_of command.now) }
         ensures after { console_of self.new ≡ obeying (console_of self.old) (ask_of command.now) }
     {
-        match command {
-            Command::Scale(choice) => self.set_scale(*choice),
-            Command::Meter(choice) => self.set_meter(*choice),
-            Command::Call(call) => self.desk.apply(call),
-        }
+        self.follow(command).unwrap_or_else(Reply::from)
     }
 
     // Answers a line of the script, unless it is there for its readers alone.
@@ -103,8 +87,8 @@ impl Console {
         }
         match Command::parse(heap, line) {
             Ok(command) => Ok(Some(self.obey(&command))),
-            Err(LineFault::Malformed) => Ok(Some(Reply::Unreadable)),
-            Err(LineFault::Memory(error)) => Err(error),
+            Err(SpellingFault::Malformed) => Ok(Some(Reply::Unreadable)),
+            Err(SpellingFault::Memory(error)) => Err(error),
         }
     }
 

@@ -1,6 +1,6 @@
 // Making a stack, pushing, popping and looking at the top.
-ghost use Rattle.stack.specs.Stacks.{held, first, rest, pushed, Laid};
-ghost use Rattle.std.specs.Prelude.{◌≡◌, List, [], ◌∷◌, length, Some, None, nat_lt};
+ghost use Rattle.stack.specs.Stacks.{held, first, rest, pushed, push_answer};
+ghost use Rattle.std.specs.Prelude.{◌≡◌, [], drop, length, Some, None};
 
 use crate::eight::Stack;
 
@@ -15,41 +15,35 @@ impl<T: Copy> Stack<T> {
         }
     }
 
-    // Changes nothing: a call brings into its caller's proof where the items stand.
-    fn laid(&self)
-        ensures { Laid self.now }
-    {}
-
     // How many items there are.
+    #[tactic(auto, using(crate::proofs::Tops::height))]
     pub fn height(&self) -> usize
         ensures { result ≡ length (held self.now) }
     {
-        let count = self.count;
-        self.laid();
-        count
+        self.count
     }
 
-    // One item more, and true; a full stack stays as it is and answers false.
-    pub fn push(&mut self, item: T) -> bool
-        ensures room { result ≡ nat_lt (length (held self.old)) 8 }
+    // One item more; a full stack stays as it is, and the item comes back.
+    #[tactic(auto, using(crate::proofs::Tops::height, crate::proofs::Tops::more))]
+    pub fn push(&mut self, item: T) -> Result<(), T>
+        ensures answer { result ≡ push_answer item (held self.old) }
         ensures after { held self.new ≡ pushed item (held self.old) }
     {
-        self.laid();
         if self.count < 8 {
             self.items[self.count] = item;
             self.count += 1;
-            true
+            Ok(())
         } else {
-            false
+            Err(item)
         }
     }
 
     // Takes the top item off.
+    #[tactic(auto, using(crate::proofs::Tops::fewer, crate::proofs::Tops::less, crate::proofs::Tops::height))]
     pub fn pop(&mut self) -> Option<T>
         ensures value { result ≡ first (held self.old) }
         ensures after { held self.new ≡ rest (held self.old) }
     {
-        self.laid();
         if self.count == 0 {
             return None;
         }
@@ -57,26 +51,29 @@ impl<T: Copy> Stack<T> {
         Some(self.items[self.count])
     }
 
+    // The item that has so many above it.
+    fn under(&self, above: usize) -> Option<T>
+        ensures { result ≡ first (drop above (held self.now)) }
+    {
+        if self.count <= above {
+            return None;
+        }
+        Some(self.items[self.count - 1 - above])
+    }
+
     // The top item, which stays.
     pub fn top(&self) -> Option<T>
         ensures { result ≡ first (held self.now) }
     {
-        self.laid();
-        if self.count == 0 {
-            return None;
-        }
-        Some(self.items[self.count - 1])
+        self.under(0)
     }
 
     // The item under the top one, which stays.
+    #[tactic(auto, using(crate::proofs::Tops::drop_one))]
     pub fn second(&self) -> Option<T>
         ensures { result ≡ first (rest (held self.now)) }
     {
-        self.laid();
-        if self.count < 2 {
-            return None;
-        }
-        Some(self.items[self.count - 2])
+        self.under(1)
     }
 
     // Leaves no item.

@@ -1,9 +1,6 @@
-use Rattle.std.proofs.Common.{sym, ◌∙◌, arith}
-use Rattle.book.proofs.Finishes.{stops_at, stops_none}
+use Rattle.std.proofs.Common.{rules}
+use Rattle.book.proofs.Finishes.{asked_last}
 use Rattle.reader.proofs.weigh.stops_last.Goals as goal
 
-pub returns-then-code-eq0 : goal.returns-then-code-eq0
-returns-then-code-eq0 c = sym (stops_none c.args.code.now (omega arith))
-
 pub returns : goal.returns
-returns c = c.is_stop.ensures ∙ sym (stops_at c.args.code.now (omega arith))
+returns c = asked_last c.args.code.now c.last.result c.is_none_or.result c.last.ensures.value (search rules)

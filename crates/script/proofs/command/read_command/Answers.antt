@@ -1,11 +1,11 @@
 use Rattle.std.proofs.Common.{◌≡◌, ◌<◌, ◌⊎◌, length, codes, ap, ◌∙◌, inl, inr, arith, rules, ltb-false, ltb-true}
 use Rattle.script.proofs.command.read_command.Goals as goal
 use Rattle.script.proofs.command.read_command.Goals.{in_default-via-then-words-lt1, in_default-via-else-words-lt1+in_default}
-use Rattle.script.proofs.Readings.{reads_part}
 use Rattle.script.proofs.Spellings.{ask_call, at}
 use Rattle.script.specs.Asked.{call, call_spelled, spelled}
 use Rattle.script.specs.Calls.{ask_of, call_of}
-use Rattle.script.specs.Words.{texts}
+use Rattle.spelling.proofs.Readings.{reads_part}
+use Rattle.spelling.specs.Numerals.{texts}
 use Rattle.std.specs.Option.{option_map}
 
 pub returns-in_err-read_call-in_default : goal.returns-in_err-read_call-in_default

@@ -1,11 +1,9 @@
-use Rattle.std.proofs.Common.{◌≡◌, ◌++◌, length, string_bytes}
-use Rattle.script.proofs.play.answer_all.Given as goal
+use Rattle.std.proofs.Common.{◌≡◌, ℕ, List, ◌++◌, map, string_bytes}
 use Rattle.script.specs.Consoles.{console_of}
-use Rattle.script.specs.Scripts.{answers, lines_of}
+use Rattle.script.specs.Scripts.{answers}
+use Rattle.script.proofs.play.answer_all.Given as goal
 
--- what was answered so far, and behind it what the rest will be answered
-abbrev pub invariant-loop-rest : goal.invariant-loop-rest
-invariant-loop-rest l = string_bytes l.transcript ++ answers (console_of l.console) (lines_of l.rest) ≡ answers (console_of l.initial.console) (lines_of l.script)
-
-abbrev pub decreases-loop-rest : goal.decreases-loop-rest
-decreases-loop-rest l = length l.rest
+-- whatever lines come after these, the text so far stands before what they are answered
+abbrev pub invariant-loop-line : goal.invariant-loop-line
+invariant-loop-line l =
+    (more : List (List ℕ)) → string_bytes l.transcript ++ answers (console_of l.console) more ≡ answers (console_of l.initial.console) (map (λ line. line.now) l.yielded ++ more)

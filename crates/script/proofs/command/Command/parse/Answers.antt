@@ -3,7 +3,9 @@ use Rattle.script.proofs.command.Command.parse.Goals as goal
 use Rattle.script.proofs.Splits.{ascii_all, ascii_not, surely}
 use Rattle.script.specs.Asked.{Ask, ascii, asked, spelled}
 use Rattle.script.specs.Calls.{ask_of}
-use Rattle.script.specs.Words.{Reads, texts, words_of}
+use Rattle.script.specs.Words.{words_of}
+use Rattle.spelling.specs.Numerals.{texts}
+use Rattle.spelling.specs.Reads.{Reads}
 use Rattle.std.proofs.lemmas.Result.{MatchResult-at_ok}
 use Rattle.std.proofs.lemmas.Bool.{cond-false, cond-true}
 use Rattle.std.proofs.lemmas.Str.{IsUtf8-from_ascii}

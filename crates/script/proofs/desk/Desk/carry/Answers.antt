@@ -1,18 +1,12 @@
-use Rattle.std.proofs.Common.{ap, ◌∙◌}
+use Rattle.std.proofs.Common.{ap, inl}
 use Rattle.script.proofs.desk.Desk.carry.Goals as goal
-use Rattle.script.proofs.Ties.{agrees_by, ends}
-use Rattle.script.specs.Chosen.{meter_of, scale_of}
+use Rattle.script.proofs.Ties.{spent}
 use Rattle.script.specs.Held.{paper_held}
-use Rattle.engine.specs.Calls.{next}
-use Rattle.engine.specs.declared.slip.Numbers.{Numbers}
-use Rattle.engine.specs.Models.{EngineModel, carry as carry_call}
-use Rattle.engine.specs.Seen.{engine_of, paper_of}
+use Rattle.engine.specs.Models.{carry}
+use Rattle.engine.specs.Seen.{paper_of}
 
--- a slip that was carried is neither out nor held
+-- the slip that was presented is no longer held, and if it was out, it is no longer out
 pub invariant_of-self : goal.invariant_of-self
 invariant_of-self c =
-    let e = c.args.self.now.engine in
     let slip = c.present-slip.ensures in
-    let same = ap (λ (n : Numbers). next (scale_of e.scale) (meter_of e.meter) (engine_of e) (carry_call (paper_of n))) slip.same in
-    let end = ends (scale_of e.scale) (meter_of e.meter) (engine_of e) (paper_of c.args.numbers) (paper_held c.args.self.now.held) c.args.self.now.tied in
-    record { tied = agrees_by _ _ _ _ (ap (λ (m : EngineModel). m.shared.out) (c.carry.ensures.after ∙ same)) slip.left end.carried }
+    record { tied = spent (paper_of c.args.numbers) (paper_held c.args.self.now.held) (paper_held c.present-slip.new.held) (inl (ap (λ n. carry (paper_of n)) slip.same)) c.carry.ensures.step slip.left c.args.self.now.tied }

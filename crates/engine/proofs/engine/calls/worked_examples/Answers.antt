@@ -1,5 +1,0 @@
-use Rattle.engine.proofs.engine.calls.worked_examples.Goals as goal
-use Rattle.engine.proofs.Worked.{worked_examples}
-
-pub returns : goal.returns
-returns c = worked_examples
