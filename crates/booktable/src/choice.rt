@@ -49,7 +49,8 @@ impl FromStr for MeterChoice {
     }
 }
 
-// The twelve charges of a card, with commas between them.
+// The twelve charges of a card, with commas between them. They are read as they are split off; `read_numbers` of a script
+// takes words that stand in a slice.
 fn read_charges(list: &str) -> Result<[u32; 12], SpellingFault> {
     let mut charges = [0; 12];
     let mut words = list.split(',');

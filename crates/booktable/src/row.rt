@@ -15,7 +15,7 @@ pub(crate) struct Row {
 }
 
 impl Row {
-    // The row of a line with three words, one space between them.
+    // The row of a line with three words, one space between them. It takes the heap, so it is no `FromStr`.
     pub(crate) fn parse(heap: Global, line: &str) -> Result<Row, SpellingFault> {
         let (scale, rest) = line.split_once(' ').ok_or(SpellingFault::Malformed)?;
         let (meter, bytes) = rest.split_once(' ').ok_or(SpellingFault::Malformed)?;

@@ -6,7 +6,7 @@ use script::console::Console;
 use std::io;
 use std::io::{BufRead, BufReader};
 
-// Answers the script line by line.
+// Answers the script line by line, as the lines come; `play` has a script whole, and writes to a string.
 fn answer_all(rt: &HostRuntime, console: &mut Console) -> io::Result<()> {
     let heap = rt.alloc();
     for line in BufReader::new(heap, rt.stdin())?.split(heap, b'\n') {

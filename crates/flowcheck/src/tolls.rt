@@ -21,7 +21,8 @@ fn added<M: Meter>(meter: &M, instruction: Instruction) -> u64
     }
 }
 
-// The toll of what is left of a stretch.
+// The toll of what is left of a stretch. It goes through blocks as the reader's weights do, but nothing counts behind an
+// else, a repeat of 0 counts nothing, and there is no limit, so that one sum for both would ask for all three.
 #[derive(Drop)]
 struct Toll {
     ticks: u64,

@@ -6,7 +6,7 @@ ghost use Rattle.std.specs.Prelude.{◌≡◌, length, take};
 use reader::rulebook::Book;
 
 // The jumps of the book's places, 0 where nothing jumps. A row of the largest size beside the reader's book: nothing here
-// allocates, and a run takes its jumps without a test.
+// allocates, a program is `Copy`, which an `ArrayVec` is not, and a run takes its jumps without a test.
 #[derive(Clone, Copy)]
 pub struct Program {
     pub(crate) book: Book,

@@ -3,15 +3,15 @@ ghost use Rattle.meter.specs.Meters.{MeterModel, Lawful, instruction};
 ghost use Rattle.std.specs.Prelude.{◌≡◌};
 
 pub trait Meter {
-    // The largest charge that any meter of this type can make. `largest_charge` answers one meter's own, with a contract;
-    // a clause that ties it to the constant would ask more of whoever writes a meter, so both stay.
+    // The largest charge that any meter of this type can make, as its writer states it. `largest_charge` answers one meter's
+    // own, with a contract; a clause that ties the two would ask more of whoever writes a meter, so both stay.
     const LARGEST: u32;
 
     // What the meter answers to every question.
     ghost meaning: { Self → MeterModel };
 
     // The ticks that an instruction with these operands takes. The code is a number, since a meter answers for the codes
-    // of no instruction too.
+    // of no instruction too: a narrower type would ask more of callers.
     fn charge(&self, code: u8, first: i32, second: i32) -> u32
         ensures { result ≡ (meaning self.now).charge code first second };
 

@@ -9,7 +9,8 @@ pub struct Book {
     pub(crate) figures: usize,
     pub(crate) count: usize,
     pub(crate) clock: u16,
-    // Arrays of the largest sizes, in use up to the sizes beside them: nothing here allocates, and a book is copied.
+    // Arrays of the largest sizes, in use up to the sizes beside them: nothing here allocates, and a book is `Copy`, which
+    // an `ArrayVec` is not.
     // The levels and the start amounts are rows apart, since each is lent as a slice.
     pub(crate) levels: [u16; 32],
     pub(crate) starts: [i32; 32],

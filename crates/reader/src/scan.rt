@@ -61,7 +61,7 @@ impl Scan {
         }
     }
 
-    // The fault of an instruction at this place, if it has one.
+    // Refuses an instruction that may not stand at this place.
     pub(crate) fn check(&self, instruction: Instruction, place: u32) -> Result<(), ReaderFault>
         ensures { result_err result ≡ step_fault place self.now.height (held self.now.blocks) instruction }
     {

@@ -122,7 +122,7 @@ fn split_words<'a>(heap: Global, line: &'a str) -> Result<Vec<&'a str>, AllocErr
 }
 
 impl Command {
-    // The command of a line whose words have one space between them.
+    // The command of a line whose words have one space between them. It takes the heap, so it is no `TryFrom`.
     pub(crate) fn parse(heap: Global, line: &[u8]) -> Result<Command, SpellingFault>
         ensures { Reads ask_of (asked line.now) result }
     {

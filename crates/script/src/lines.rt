@@ -1,4 +1,5 @@
-// The line of each reply.
+// The line of each reply. The words for a loaded book and a refusal are those of the crate `line`, which puts its lines
+// together without a writer that could fail, and with a line feed.
 ghost use Rattle.script.specs.Lines.{line_of};
 ghost use Rattle.std.specs.Prelude.{Some};
 

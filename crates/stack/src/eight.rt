@@ -4,7 +4,8 @@ ghost use Rattle.std.specs.Prelude.{◌≡◌, ◌≤◌, length};
 mod methods;
 
 // The bottom item is the array's first, and only the first `count` places count. An array of the largest size, since
-// nothing here allocates; `ArrayVec` does not either, but asks a `Default` of its items, which a stack's need not have.
+// nothing here allocates; `ArrayVec` does not either, but asks for blank items, which it writes where an item goes: that
+// would ask more of callers.
 // The size is no parameter, since every stack of the repository has the same eight places.
 #[derive(Drop)]
 pub struct Stack<T> {

@@ -1,7 +1,8 @@
 // The state between runs: the figures' amounts and the clock. Its calls are beside it.
 ghost use Rattle.std.specs.Prelude.{◌≡◌, ◌≤◌, length};
 
-// Only the first `count` amounts are figures'. A row of the largest size: nothing here allocates, and a state is copied.
+// Only the first `count` amounts are figures'. A row of the largest size: nothing here allocates, and a state is copied,
+// as an `ArrayVec` cannot be.
 #[derive(Clone, Copy)]
 pub struct State {
     pub(crate) amounts: [i32; 32],

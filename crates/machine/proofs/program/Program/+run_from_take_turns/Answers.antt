@@ -2,9 +2,9 @@ use Rattle.std.proofs.Common.{◌+◌, ◌-◌, drop, sym, refl, ap, ◌∙◌, 
 use Rattle.reader.specs.Books.{said}
 use Rattle.book.specs.declared.instruction.Instruction.TheVariants.{Number, Figure, Clock, Operate, Store, Repeat, Wait}
 use Rattle.book.specs.Trees.{here, parse}
-use Rattle.machine.proofs.Going.{at_end, at_last, at_stop, on_else, on_end, on_left_out, on_plain, on_repeat, on_taken}
+use Rattle.machine.proofs.Going.{at_last, at_stop, on_else, on_end, on_left_out, on_plain, on_repeat, on_taken}
 use Rattle.machine.proofs.program.Program.+run_from_take_turns.Goals as goal
-use Rattle.machine.proofs.Turns.{times_more, times_none}
+use Rattle.machine.proofs.Turns.{times_more}
 use Rattle.steps.specs.Machines.{Machine, emptied, perform}
 use Rattle.steps.specs.Runs.{exec, times}
 use Rattle.steps.specs.Seen.{machine_of}
@@ -50,9 +50,6 @@ run_from-loop-place-smaller-in-Else g t c = omega (arith, (on_else c.code-code.e
 pub run_from-loop-place-preserved-in-Else : goal.run_from-loop-place-preserved-in-Else
 run_from-loop-place-preserved-in-Else g t c = (on_else c.code-code.ensures c.loop-place.invariant c.loop-place-test.true c.in-Else.is c.jump-place-in-Else.ensures.to).0
 
-pub run_from-returns-then-ifs-eq0 : goal.run_from-returns-then-ifs-eq0
-run_from-returns-then-ifs-eq0 g t c = at_end c.code-code.ensures c.loop-place.invariant c.loop-place-test.true c.in-End.is c.if-ifs-eq0.true
-
 pub run_from-loop-place-preserved : goal.run_from-loop-place-preserved
 run_from-loop-place-preserved g t c = on_end c.code-code.ensures c.loop-place.invariant c.loop-place-test.true c.in-End.is (omega arith) c.leave-in-End.ensures
 
@@ -70,11 +67,3 @@ take_turns-loop-preserved g t c =
     let l = c.loop in
     let one = c.run_from.ensures ∙ ap (exec m inside) c.turn.ensures in
     ap (times (c.args.count - (l.counter + 1)) step) one ∙ sym (times_more c.args.count l.counter step (machine_of l.machine) (omega arith)) ∙ l.invariant
-
-pub take_turns-returns : goal.take_turns-returns
-take_turns-returns g t c =
-    let m = g.M.Meter.meaning c.args.meter.now in
-    let inside = here (parse (drop c.args.from (said c.args.self.now.book).code)) in
-    let step : Machine → Machine = λ u. exec m inside (perform m (Repeat c.args.count) u) in
-    let l = c.loop in
-    sym (times_none c.args.count l.counter step (machine_of l.machine) (omega arith)) ∙ l.invariant
