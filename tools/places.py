@@ -167,7 +167,7 @@ def same_shape():
         for f in FUNCTIONS:
             if f["path"] != path:
                 continue
-            after = lines[f["line"] :]
+            after = lines[f["line"] - 1 :]
             indent = re.match(r" *", lines[f["line"] - 1]).group()
             body, inside = [], False
             for line in after:
@@ -175,7 +175,7 @@ def same_shape():
                     break
                 if inside:
                     body.append(re.sub(r"[A-Za-z_]\w*|\d+", "x", line.strip()))
-                if line.rstrip() == indent + "{" or (not inside and line.rstrip().endswith(") {")):
+                if not inside and (line.rstrip() == indent + "{" or line.rstrip().endswith(" {")):
                     inside = True
             if len(body) >= 4:
                 bodies["\n".join(body)].append(show(f))
