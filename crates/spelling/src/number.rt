@@ -3,7 +3,8 @@ ghost use Rattle.spelling.specs.Laws.{integer_reads, natural_reads};
 ghost use Rattle.spelling.specs.Numerals.{integer, natural, naturals, texts};
 ghost use Rattle.spelling.specs.Reads.{Numbered, Reads};
 ghost use Rattle.spelling.specs.declared.fault.SpellingFault.{SpellingFault};
-ghost use Rattle.std.specs.Prelude.{◌≡◌, ℕ, List, Option, Result};
+ghost use Rattle.spelling.specs.declared.fault.SpellingFault.TheVariants.{Malformed};
+ghost use Rattle.std.specs.Prelude.{◌≡◌, ℕ, IfErr, List, Option, Result};
 ghost use Rattle.std.specs.Str.Parse.{ExplainsSignedError, ExplainsUnsignedError, HasSignedDigitsIfOk, HasUnsignedDigitsIfOk};
 
 use crate::fault::SpellingFault;
@@ -45,7 +46,8 @@ impl Number for i32 {
 pub fn read_number<N: Number>(word: &str) -> Result<N, SpellingFault>
 where
     N::Err: Drop,
-    ensures { Reads (λ n. n) (N.spelled word.now) result }
+    ensures read { Reads (λ n. n) (N.spelled word.now) result }
+    ensures fault { IfErr result (λ fault. fault ≡ Malformed) }
 {
     if word.starts_with('+') {
         return Err(SpellingFault::Malformed);
