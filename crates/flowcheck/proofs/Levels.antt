@@ -33,7 +33,7 @@ UnknownFrom s (l ∷ ls) n q = After (λ k. (k ≡ 7) × (s.known l ≡ false)) 
 level_named : (b : Bool) (C : ℕ → ℕ → Type 0) (p : ℕ) (y : Option CheckFault) → Named C (p + 1) y → Named (After (λ k. (k ≡ 7) × (b ≡ false)) C) p (cond b y (Some (level_fault p)))
 level_named true C p y t = follows (λ k. (k ≡ 7) × (true ≡ false)) C p None y (λ n h. true≢false h.1) t
 level_named false C zero y t = follows (λ k. (k ≡ 7) × (false ≡ false)) C 0 (Some ClockLevel) y (record { place = refl; breaks = (refl, refl); least = λ n h. omega arith }) t
-level_named false C (suc v) y t = follows (λ k. (k ≡ 7) × (false ≡ false)) C (suc v) (Some (FigureLevel v)) y (record { place = omega arith; breaks = (refl, refl); least = λ n h. omega arith }) t
+level_named false C (suc v) y t = follows (λ k. (k ≡ 7) × (false ≡ false)) C (suc v) (Some (FigureLevel (suc v))) y (record { place = omega arith; breaks = (refl, refl); least = λ n h. omega arith }) t
 
 -- the search's fault is the first
 pub unknown_named : (s : ScaleModel) (p : ℕ) (ls : List ℕ) → Named (UnknownFrom s ls) p (unknown s p ls)
@@ -51,18 +51,22 @@ at_unknown s [] q h e = absurd (omega arith)
 at_unknown s (l ∷ ls) zero h e = (refl, e)
 at_unknown s (l ∷ ls) (suc q) h e = at_unknown s ls q (omega arith) e
 
+-- the fault of a figure's level
+abbrev pub figure_fault : ℕ → CheckFault
+figure_fault v = FigureLevel (suc v)
+
 -- one level more, asked in front of others
-next : (b : Bool) (v : ℕ) (o : Option ℕ) (r : Option CheckFault) → option_map FigureLevel o ≡ r → option_map FigureLevel (cond (not b) (Some v) o) ≡ cond b r (Some (FigureLevel v))
+next : (b : Bool) (v : ℕ) (o : Option ℕ) (r : Option CheckFault) → option_map figure_fault o ≡ r → option_map figure_fault (cond (not b) (Some v) o) ≡ cond b r (Some (figure_fault v))
 next true v o r e = e
 next false v o r e = refl
 
 -- the first figure from v on whose level is unknown, as the search's fault
-unknown_position : (s : ScaleModel) (v : ℕ) (ls : List ℕ) → option_map FigureLevel (position_from (λ l. not (s.known l)) v ls) ≡ unknown s (suc v) ls
+unknown_position : (s : ScaleModel) (v : ℕ) (ls : List ℕ) → option_map figure_fault (position_from (λ l. not (s.known l)) v ls) ≡ unknown s (suc v) ls
 unknown_position s v [] = refl
 unknown_position s v (l ∷ ls) =
     let further : suc (v + 1) ≡ suc v + 1 = omega arith in
     next (s.known l) v (position_from (λ l. not (s.known l)) (v + 1) ls) (unknown s (suc v + 1) ls) (unknown_position s (v + 1) ls ∙ ap (λ p. unknown s p ls) further)
 
 -- where the clock's level is known the search's fault is the first figure's whose level is not
-pub figures_asked : (s : ScaleModel) (l : ℕ) (ls : List ℕ) → s.known l ≡ true → option_map FigureLevel (position_from (λ l. not (s.known l)) 0 ls) ≡ unknown s 0 (l ∷ ls)
+pub figures_asked : (s : ScaleModel) (l : ℕ) (ls : List ℕ) → s.known l ≡ true → option_map figure_fault (position_from (λ l. not (s.known l)) 0 ls) ≡ unknown s 0 (l ∷ ls)
 figures_asked s l ls e = unknown_position s 0 ls ∙ sym (cond-true (s.known l) (unknown s 1 ls) (Some ClockLevel) e)

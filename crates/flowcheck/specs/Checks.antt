@@ -11,7 +11,7 @@ use Rattle.scale.specs.Scales.{ScaleModel}
 -- the fault of a level that the scale does not know: at place 0 the clock's, at 1 + v that of figure v
 abbrev pub level_fault : ℕ → CheckFault
 level_fault zero = ClockLevel
-level_fault (suc v) = FigureLevel v
+level_fault (suc v) = FigureLevel (suc v)
 
 -- the first level that the scale does not know, from place p on
 abbrev pub unknown : ScaleModel → ℕ → List ℕ → Option CheckFault

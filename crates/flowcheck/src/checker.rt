@@ -33,7 +33,7 @@ fn check_levels<S: Scale>(scale: &S, book: &Book) -> Result<(), CheckFault>
         return Err(CheckFault::ClockLevel);
     }
     match unknown_figure(scale, book) {
-        Some(figure) => Err(CheckFault::FigureLevel(figure as u8)),
+        Some(figure) => Err(CheckFault::FigureLevel(1 + figure as u32)),
         None => Ok(()),
     }
 }

@@ -1,5 +1,5 @@
 -- The number, layer and place of the check's faults.
-use Rattle.std.specs.Prelude.{ℕ, ◌+◌}
+use Rattle.std.specs.Prelude.{ℕ}
 use Rattle.refusal.specs.Readers.{reader_refusal}
 use Rattle.refusal.specs.declared.check.CheckFault.{CheckFault}
 use Rattle.refusal.specs.declared.check.CheckFault.TheVariants.{Reader, ClockLevel, FigureLevel, Charge, Direct, Implicit, Parts}
@@ -14,7 +14,7 @@ check n p = record { number = n; layer = Check; place = p }
 abbrev pub check_refusal : CheckFault → Refusal
 check_refusal (Reader f) = reader_refusal f
 check_refusal ClockLevel = check 7 0
-check_refusal (FigureLevel v) = check 7 (1 + v)
+check_refusal (FigureLevel p) = check 7 p
 check_refusal (Charge p) = check 8 p
 check_refusal (Direct p) = check 9 p
 check_refusal (Implicit p) = check 10 p

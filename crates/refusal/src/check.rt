@@ -7,15 +7,15 @@ ghost use Rattle.std.specs.Prelude.{◌≡◌};
 use crate::reader::ReaderFault;
 use crate::{Layer, Refusal};
 
-// A check's fault. A place is the number of an instruction.
+// A check's fault. A place is the number of an instruction, but for levels.
 #[derive(Clone, Copy, PartialEq, Eq, Debug)]
 pub enum CheckFault {
     // the bytes are no book
     Reader(ReaderFault),
     // the scale does not know the clock's level
     ClockLevel,
-    // the scale does not know the level of this figure
-    FigureLevel(u8),
+    // the scale does not know a figure's level: place 1 + v is that of figure v, behind the clock's
+    FigureLevel(u32),
     // a charge that varies with what the clock must not show
     Charge(u32),
     // an amount stored in a figure that is not at or above its level
@@ -33,7 +33,7 @@ impl From<CheckFault> for Refusal {
         let (number, place) = match fault {
             CheckFault::Reader(fault) => return fault.into(),
             CheckFault::ClockLevel => (7, 0),
-            CheckFault::FigureLevel(figure) => (7, 1 + u32::from(figure)),
+            CheckFault::FigureLevel(place) => (7, place),
             CheckFault::Charge(place) => (8, place),
             CheckFault::Direct(place) => (9, place),
             CheckFault::Implicit(place) => (10, place),
