@@ -36,7 +36,7 @@ impl<S: Scale, M: Meter> Grounds<'_, S, M> {
     pub(crate) fn top(&self, levels: &Stack<u16>) -> u16
         ensures { result ≡ slice_index_or (held levels.now) 0 (S.meaning self.now.scale.now).floor }
     {
-        levels.top().unwrap_or(self.scale.floor())
+        levels.top().unwrap_or_else(|| self.scale.floor())
     }
 
     // The level of a figure.
@@ -47,7 +47,7 @@ impl<S: Scale, M: Meter> Grounds<'_, S, M> {
         levels
             .get(usize::from(figure))
             .copied()
-            .unwrap_or(self.scale.floor())
+            .unwrap_or_else(|| self.scale.floor())
     }
 
     // Whether the clock may show what has this level.

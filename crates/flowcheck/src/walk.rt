@@ -45,13 +45,16 @@ impl Walk {
     {
         let scale = grounds.scale;
         let context = grounds.top(&self.contexts);
-        let top = grounds.top(&self.levels);
         match instruction {
             Instruction::Operate(_) => {
-                let second = self.levels.second().unwrap_or(scale.floor());
+                let second = self.levels.second().unwrap_or_else(|| scale.floor());
+                let top = grounds.top(&self.levels);
                 scale.join(scale.join(context, second), top)
             }
-            Instruction::Store(_) | Instruction::If => scale.join(context, top),
+            Instruction::Store(_) | Instruction::If => {
+                let top = grounds.top(&self.levels);
+                scale.join(context, top)
+            }
             _ => context,
         }
     }
@@ -147,7 +150,7 @@ impl Walk {
                 self.levels.clear();
             }
             Instruction::Repeat(_) => {
-                let context = grounds.top(&self.contexts);
+                let context = self.contexts.top().unwrap_or(floor);
                 let _ = self.contexts.push(context);
                 self.levels.clear();
             }
