@@ -37,7 +37,7 @@ pub(crate) fn decode(figures: usize, code: u8, argument: i32) -> Option<Instruct
 {
     match code {
         1 => Some(Instruction::Number(argument)),
-        2 => figure(figures, argument).map(Instruction::Figure),
+        2 => Some(Instruction::Figure(figure(figures, argument)?)),
         3 => alone(Instruction::Clock, argument),
         4 => alone(Instruction::Operate(Operation::Add), argument),
         5 => alone(Instruction::Operate(Operation::Subtract), argument),
@@ -45,10 +45,10 @@ pub(crate) fn decode(figures: usize, code: u8, argument: i32) -> Option<Instruct
         7 => alone(Instruction::Operate(Operation::Divide), argument),
         8 => alone(Instruction::Operate(Operation::Less), argument),
         9 => alone(Instruction::Operate(Operation::Equal), argument),
-        10 => figure(figures, argument).map(Instruction::Store),
+        10 => Some(Instruction::Store(figure(figures, argument)?)),
         11 => alone(Instruction::If, argument),
-        12 => natural(1001, argument).map(Instruction::Repeat),
-        13 => natural(1001, argument).map(Instruction::Wait),
+        12 => Some(Instruction::Repeat(natural(1001, argument)?)),
+        13 => Some(Instruction::Wait(natural(1001, argument)?)),
         14 => alone(Instruction::Else, argument),
         15 => alone(Instruction::End, argument),
         16 => alone(Instruction::Stop, argument),

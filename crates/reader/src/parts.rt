@@ -13,10 +13,12 @@ impl Book {
     pub fn events(&self) -> u32
         ensures { result ≡ length (events_of (said self.now).code) }
     {
-        self.code()
-            .iter()
-            .filter(|instruction| is_stop(**instruction))
-            .count() as u32
+        let mut count = 0;
+        // A sum of ones: `filter` and `count` take twice the time.
+        for instruction in self.code() {
+            count += u32::from(is_stop(*instruction));
+        }
+        count
     }
 
     // The code of the clock's level.
